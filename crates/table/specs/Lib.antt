@@ -6,3 +6,4 @@ pub mod Utf8
 pub mod Fault
 pub mod Unfold
 pub mod Document
+pub mod Valid
