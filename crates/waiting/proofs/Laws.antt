@@ -12,8 +12,11 @@ use lib.Seq.{getD-set-same, getD-set-other, sets}
 use lib.Dec.{eqb}
 use borrow.Author.Tests.{eq-eqb, ne-eqb}
 use Rattle.table.specs.Pick.{pick}
-use Rattle.machine.specs.Waiting.{Saved, Entry, node, trial, mark}
-use Rattle.machine.specs.Fit.{Item, item}
+use Rattle.rules.specs.Layout.{Page}
+use Rattle.machine.specs.Waiting.{Saved, Entry, node, trial, mark, nextIndent}
+use Rattle.machine.specs.Fit.{Item, item, reread}
+use Rattle.machine.specs.Turn.{giveUp}
+use Rattle.machine.specs.Well.{Nodes}
 use Rattle.waiting.specs.Stack.{modeOf, flagOf, savedOf, entryOf, savedAt, entryAt, stackOf, itemsOf, Same, FitPushed, tagOf, from, Nearest}
 
 pub length-stack : (d : ℕ) (w : List ℕ) → length (stackOf d w) ≡ d
@@ -180,3 +183,33 @@ unfolding from
 from-below w d tag lt some e =
     let t : eqb (tagOf (entryAt w (d - 1))) tag ≡ false = tag-word (getD w ((d - 1) * 4 + 3) 0) _ _ _ (savedAt w (d - 1)) tag lt ∙ ne-eqb _ _ e in
     rw (stack-top w d some, t)
+
+-- ---- what a search looks past makes no difference
+
+pub from-reread : (w : List Entry) → reread (from 0 w) ≡ reread w
+unfolding from
+from-reread [] = refl
+from-reread (node n i m ∷ w) = refl
+from-reread (trial b i m s ∷ w) = from-reread w
+from-reread (mark n l ∷ w) = from-reread w
+
+pub from-nodes : (N : ℕ) (w : List Entry) → Nodes N w → Nodes N (from 0 w)
+unfolding from
+from-nodes N [] h = tt
+from-nodes N (node n i m ∷ w) h = h
+from-nodes N (trial b i m s ∷ w) h = from-nodes N w h
+from-nodes N (mark n l ∷ w) h = from-nodes N w h
+
+pub from-indent : (own : ℕ) (w : List Entry) → nextIndent own (from 0 w) ≡ nextIndent own w
+unfolding from
+from-indent own [] = refl
+from-indent own (node n i m ∷ w) = refl
+from-indent own (trial b i m s ∷ w) = from-indent own w
+from-indent own (mark n l ∷ w) = from-indent own w
+
+pub from-giveUp : (p : Page) (left : ℕ) (w : List Entry) → giveUp p left (from 1 w) ≡ giveUp p left w
+unfolding from
+from-giveUp p left [] = refl
+from-giveUp p left (node n i m ∷ w) = from-giveUp p left w
+from-giveUp p left (trial b i m s ∷ w) = refl
+from-giveUp p left (mark n l ∷ w) = from-giveUp p left w
