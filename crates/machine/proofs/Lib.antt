@@ -1,0 +1,2 @@
+-- Laws of the step function: what a turn keeps.
+pub mod Kept
