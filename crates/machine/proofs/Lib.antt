@@ -1,2 +1,3 @@
 -- Laws of the step function: what a turn keeps.
 pub mod Kept
+pub mod Ends
