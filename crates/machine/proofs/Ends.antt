@@ -34,7 +34,7 @@ module _ (L : Limits) {R : Type 0} (stop : R) (go : ℕ → R) where
 
 -- ---- outcomes
 
-or-false : (o : Bool) → o || false ≡ o
+pub or-false : (o : Bool) → o || false ≡ o
 or-false true = refl
 or-false false = refl
 

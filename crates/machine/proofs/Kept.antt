@@ -3,9 +3,9 @@
 use mathlib.Core.Path.{_≡_, refl}
 use Prim.Native.Nat.{ℕ, suc, zero, _+_, _*_, _≤_, _<_}
 use mathlib.Core.Bool.{Bool, true, false, _||_}
-use mathlib.Core.List.{List, [], _∷_, _++_}
+use mathlib.Core.List.{List, [], _∷_}
 use native.Mathlib.Omega.{arith}
-use lib.ListN.{length, take, drop, replicate, length-append, length-take, length-drop, length-replicate}
+use lib.ListN.{length, take, drop, length-append, length-take, length-drop, length-replicate}
 use lib.Dec.{leb, ltb}
 use borrow.Author.Tests.{leb-true}
 use Rattle.table.specs.Pick.{pick}

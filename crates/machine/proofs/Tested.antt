@@ -1,7 +1,7 @@
 -- The engine's fit test says what the rules' fit test says, at the steps that are left of the limit. Node n unfolds to `at n`.
 -- Assumes nothing.
 use Prim.Native.Nat.{ℕ, zero, suc, _+_, _-_, _≤_, _<_}
-use mathlib.Core.Path.{_≡_, refl, sym, ap, _∙_}
+use mathlib.Core.Path.{_≡_, refl, ap, _∙_}
 use mathlib.Core.Bool.{Bool, true, false}
 use mathlib.Core.List.{List, [], _∷_}
 use native.Mathlib.Omega.{arith}
@@ -13,7 +13,7 @@ use Rattle.table.specs.Valid.{Sound, Valid}
 use Rattle.rules.specs.Layout.{Limits, Mode, flat, broken, says, spent}
 use Rattle.rules.specs.Layout as rules
 use Rattle.machine.specs.Waiting.{Entry, node, trial, mark}
-use Rattle.machine.specs.Fit.{Verdict, fits, wide, due, Item, item, reread, Walked, walk, say, hardlineFits, textFits, byMode, look, fit}
+use Rattle.machine.specs.Fit.{Verdict, fits, wide, due, Item, item, reread, Walked, walk, say, textFits, look, fit}
 use Rattle.machine.specs.Well.{Nodes}
 use Rattle.machine.proofs.Ends.{visit-goes, visit-stops, waiting}
 
