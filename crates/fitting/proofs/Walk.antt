@@ -27,6 +27,10 @@ unfolding fit
 fit-nil T W zero c = refl
 fit-nil T W (suc left) c = refl
 
+-- a node in hand and k more of its mode
+abbrev pub hand : List ℕ → ℕ → ℕ → ℕ → List Item
+hand w n m k = item n (modeOf m) ∷ itemsOf m k w
+
 module _ (T : List ℕ) (W x d c left : ℕ) where
   -- what the whole fit test says, over the work area w
   abbrev whole : List ℕ → Verdict
@@ -49,31 +53,23 @@ module _ (T : List ℕ) (W x d c left : ℕ) where
     pub column : col ≤ 65536
     pub said : fit T W s (is ++ reread (stackOf a w)) col ≡ whole w
 
-  -- with a node in hand and k more of its mode
-  abbrev pub hand : List ℕ → ℕ → ℕ → ℕ → List Item
-  hand w n m k = item n (modeOf m) ∷ itemsOf m k w
-
   pub walk-start : (w : List ℕ) → Fitting T w W x d c → Walking w w (hand w x 1 0) d c left
   walk-start w f =
       record {
-        N = f .N; valid = f .valid; words = f .words; small = f .small; width = f .width; area = f .area; deep = f .deep; at = omega arith;
-        same = same-refl 1024 w; long = refl; nodes = f .nodes; stack = (omega (arith, f .child), tt); column = f .column; said = refl;
-      }
-
-  -- where a loop begins
-  pub walk-reset : (w₀ w : List ℕ) (is : List Item) (a col s : ℕ) → Walking w₀ w is a col s → Walking w w is a col s
-  walk-reset w₀ w is a col s h =
-      record {
-        N = h .N; valid = h .valid; words = h .words; small = h .small; width = h .width; area = h .area; deep = h .deep; at = h .at;
-        same = same-refl 1024 w; long = refl; nodes = h .nodes; stack = h .stack; column = h .column; said = h .said;
-      }
-
-  -- back to where the outer loop began
-  pub walk-rebase : (w₀ w w′ : List ℕ) (is : List Item) (a col s : ℕ) → Same 1024 w₀ w → length w ≡ length w₀ → Walking w w′ is a col s → Walking w₀ w′ is a col s
-  walk-rebase w₀ w w′ is a col s p e h =
-      record {
-        N = h .N; valid = h .valid; words = h .words; small = h .small; width = h .width; area = h .area; deep = h .deep; at = h .at;
-        same = same-trans 1024 w₀ w w′ p (h .same); long = h .long ∙ e; nodes = h .nodes; stack = h .stack; column = h .column; said = h .said;
+        N = f .N;
+        valid = f .valid;
+        words = f .words;
+        small = f .small;
+        width = f .width;
+        area = f .area;
+        deep = f .deep;
+        at = omega arith;
+        same = same-refl 1024 w;
+        long = refl;
+        nodes = f .nodes;
+        stack = (omega (arith, f .child), tt);
+        column = f .column;
+        said = refl;
       }
 
   fit-length : (N : ℕ) (is : List Item) → FitStacked N is → length is ≤ N
@@ -120,10 +116,21 @@ module _ (T : List ℕ) (W x d c left : ℕ) where
         walk-on : (is′ : List Item) (c′ : ℕ) → stepped r m k col w′ [] (S - 1) ≡ walk (is′ ++ []) c′ → stepped r m k col w′ (reread (stackOf a w)) (S - 1) ≡ walk (is′ ++ reread (stackOf a w)) c′ → Walking w₀ w′ is′ a c′ (S - 1)
         walk-on is′ c′ alone all =
             let f : FitNext (h .N) (walk is′ c′) =
-              subst (λ (l : List Item). FitNext (h .N) (walk l c′)) (append-nil is′) (subst (λ (v : Walked). FitNext (h .N) v) (sym (p .said [] (S - 1)) ∙ alone) (rw append-nil next)) in
+            subst (λ (l : List Item). FitNext (h .N) (walk l c′)) (append-nil is′) (subst (λ (v : Walked). FitNext (h .N) v) (sym (p .said [] (S - 1)) ∙ alone) (rw append-nil next)) in
             record {
-              N = h .N; valid = h .valid; words = h .words; small = h .small; width = h .width; area = omega (arith, h .area); deep = h .deep; at = h .at;
-              same = same-trans 1024 w₀ w w′ (h .same) (p .same); long = e ∙ h .long; nodes = rw (kept-stack a (h .at)) (h .nodes); stack = f .0; column = f .1;
+              N = h .N;
+              valid = h .valid;
+              words = h .words;
+              small = h .small;
+              width = h .width;
+              area = omega (arith, h .area);
+              deep = h .deep;
+              at = h .at;
+              same = same-trans 1024 w₀ w w′ (h .same) (p .same);
+              long = e ∙ h .long;
+              nodes = rw (kept-stack a (h .at)) (h .nodes);
+              stack = f .0;
+              column = f .1;
               said = rw (kept-stack d (omega arith), kept-stack a (h .at)) (after (walk (is′ ++ reread (stackOf a w)) c′) (sym all ∙ p .said (reread (stackOf a w)) (S - 1)));
             }
 
@@ -133,11 +140,14 @@ module _ (T : List ℕ) (W x d c left : ℕ) where
         pub walk-done : (c′ : Column) → r ≡ Done c′ → Walking w₀ w′ (itemsOf m k w′) a (c′ .0) (S - 1)
         walk-done c′ er = walk-on (itemsOf m k w′) (c′ .0) (rw er) (rw er)
 
+        pub walk-same : Same 1024 w₀ w′
+        walk-same = same-trans 1024 w₀ w w′ (h .same) (p .same)
+
         pub walk-yes : r ≡ Fits → fits (S - 1) ≡ whole w′
-        walk-yes er = rw (kept-stack d (omega arith)) (after (say (fits (S - 1))) (subst (λ (v : Step). stepped v m k col w′ (reread (stackOf a w)) (S - 1) ≡ _) er (p .said (reread (stackOf a w)) (S - 1))))
+        walk-yes er = rw (kept-stack d (omega arith)) (after (say (fits (S - 1))) (sym (ap (λ (v : Step). stepped v m k col w′ (reread (stackOf a w)) (S - 1)) er) ∙ p .said (reread (stackOf a w)) (S - 1)))
 
         pub walk-no : r ≡ Wide → wide (S - 1) ≡ whole w′
-        walk-no er = rw (kept-stack d (omega arith)) (after (say (wide (S - 1))) (subst (λ (v : Step). stepped v m k col w′ (reread (stackOf a w)) (S - 1) ≡ _) er (p .said (reread (stackOf a w)) (S - 1))))
+        walk-no er = rw (kept-stack d (omega arith)) (after (say (wide (S - 1))) (sym (ap (λ (v : Step). stepped v m k col w′ (reread (stackOf a w)) (S - 1)) er) ∙ p .said (reread (stackOf a w)) (S - 1)))
 
   -- ---- a node is done
 
@@ -157,20 +167,31 @@ module _ (T : List ℕ) (W x d c left : ℕ) where
       sym (fit-nil T W s col) ∙ (rw (none-left w m k z, q) at (h .said))
 
   -- the next waiting node, read as broken
-  pub walk-next : (w₀ w : List ℕ) (m k a col s r : ℕ) → k ≡ 0 → Walking w₀ w (itemsOf m k w) a col s → Nearest w a 0 r → (r ≡ 0 → ⊥) → Walking w₀ w (hand w (getD w ((r - 1) * 4) 0) 0 0) (r - 1) col s
+  pub walk-next : (w₀ w : List ℕ) (m k a col s r : ℕ) → k ≡ 0 → Walking w₀ w (itemsOf m k w) a col s → Nearest w a 0 r → (r ≡ 0 → ⊥) → Walking w₀ w (hand w (getD w ((r - 1) * 4) 0) 0 k) (r - 1) col s
   walk-next w₀ w m k a col s r z h f ne =
       let lt : 0 < r = omega arith in
       let t : getD w ((r - 1) * 4 + 3) 0 ≡ 0 = f .tagged lt in
       let top : stackOf r w ≡ node (getD w ((r - 1) * 4) 0) (getD w ((r - 1) * 4 + 1) 0) (modeOf (getD w ((r - 1) * 4 + 2) 0)) ∷ stackOf (r - 1) w = stack-top w r lt ∙ rw t in
       let q : reread (stackOf a w) ≡ item (getD w ((r - 1) * 4) 0) broken ∷ reread (stackOf (r - 1) w) = sym (from-reread (stackOf a w)) ∙ ap reread (f .found ∙ top) in
       let g : Nodes (h .N) (node (getD w ((r - 1) * 4) 0) (getD w ((r - 1) * 4 + 1) 0) (modeOf (getD w ((r - 1) * 4 + 2) 0)) ∷ stackOf (r - 1) w) =
-        subst (λ (l : List Entry). Nodes (h .N) l) (f .found ∙ top) (from-nodes (h .N) (stackOf a w) (h .nodes)) in
+      subst (λ (l : List Entry). Nodes (h .N) l) (f .found ∙ top) (from-nodes (h .N) (stackOf a w) (h .nodes)) in
       record {
-        N = h .N; valid = h .valid; words = h .words; small = h .small; width = h .width; area = h .area; deep = h .deep; at = omega (arith, f .within, h .at);
-        same = h .same; long = h .long; nodes = g .1; stack = (omega (arith, g .0), tt); column = h .column;
-        said = rw (none-left w m k z, q) at (h .said);
+        N = h .N;
+        valid = h .valid;
+        words = h .words;
+        small = h .small;
+        width = h .width;
+        area = h .area;
+        deep = h .deep;
+        at = omega (arith, f .within, h .at);
+        same = h .same;
+        long = h .long;
+        nodes = g .1;
+        stack = rw (none-left w 0 k z) (omega (arith, g .0), tt);
+        column = h .column;
+        said = rw (none-left w 0 k z) (rw (none-left w m k z, q) at (h .said));
       }
 
-  -- at the end: w is the area at entry, w₂ now
-  pub walk-fitted : (w w₂ : List ℕ) (r : Fit) → d ≤ 1024 → Same 1024 w w₂ → verdictOf r ≡ whole w₂ → Fitted T W x d c left w r w₂
-  walk-fitted w w₂ r le p e = record { same = p; said = e ∙ rw (stack-same d w w₂ (same-less d 1024 w w₂ le p)) }
+  -- the answer, over the work area as it is now
+  pub walk-fitted : (w w′ : List ℕ) (r : Fit) → d ≤ 1024 → Same 1024 w w′ → verdictOf r ≡ whole w′ → Fitted T W x d c left w r w′
+  walk-fitted w w′ r le p e = record { same = p; said = e ∙ rw (stack-same d w w′ (same-less d 1024 w w′ le p)) }

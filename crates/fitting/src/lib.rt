@@ -2,7 +2,8 @@
 //
 // An inner walk goes down a node and an outer walk over the waiting nodes; both are left by label at the first yes or no.
 // Not an entry point of the library: `fitting` asks a valid table and a work area of its caller.
-use table::{Column, NodeNo};
+use table::Column;
+use table::NodeNo;
 use waiting::Mode;
 ghost use mathlib.Core.Path.{_≡_};
 ghost use Prim.Native.Nat.{_+_, _*_, _≤_, _<_};
@@ -27,7 +28,15 @@ pub enum Fit {
 }
 
 // A visit. Append, Group, Nest, Align and Annotated are walked through; Union takes its second arm; FlatAlt goes by mode.
-fn look(table: &[u32], work: &mut [u32], width: u32, node: NodeNo, mode: Mode, count: usize, column: Column) -> Step
+fn look(
+    table: &[u32],
+    work: &mut [u32],
+    width: u32,
+    node: NodeNo,
+    mode: Mode,
+    count: usize,
+    column: Column,
+) -> Step
     requires { ⌜ node .0 * 4 + 4 ≤ length (now table) ⌝ }
     requires { ⌜ Sound 65536 (node .0) (nodeAt (now table) (node .0)) ⌝ }
     requires { ⌜ (16384 ≤ length (now work)) × (count ≤ 1024) × (column .0 ≤ 65536) ⌝ }
@@ -44,11 +53,19 @@ fn look(table: &[u32], work: &mut [u32], width: u32, node: NodeNo, mode: Mode, c
             Step::Down(NodeNo(a), count + 1)
         }
         2 | 4 | 7 | 9 => Step::Down(NodeNo(a), count),
-        3 => if mode.0 == 0 { Step::Down(NodeNo(a), count) } else { Step::Down(NodeNo(b), count) },
+        3 => if mode.0 == 0 {
+            Step::Down(NodeNo(a), count)
+        } else {
+            Step::Down(NodeNo(b), count)
+        },
         5 => if mode.0 == 0 { Step::Fits } else { Step::Wide },
         6 => {
             let end = column.0 + table[at + 3];
-            if end <= width { Step::Done(Column(end)) } else { Step::Wide }
+            if end <= width {
+                Step::Done(Column(end))
+            } else {
+                Step::Wide
+            }
         }
         8 => Step::Down(NodeNo(b), count),
         _ => Step::Wide,
@@ -56,15 +73,23 @@ fn look(table: &[u32], work: &mut [u32], width: u32, node: NodeNo, mode: Mode, c
 }
 
 // The group's child, flat; when that is done the waiting nodes in order, all read as broken. Nothing left says yes.
-pub fn fitting(table: &[u32], work: &mut [u32], width: u32, child: NodeNo, depth: usize, column: Column, left: u32) -> Fit
+pub fn fitting(
+    table: &[u32],
+    work: &mut [u32],
+    width: u32,
+    child: NodeNo,
+    depth: usize,
+    column: Column,
+    left: u32,
+) -> Fit
     requires { ⌜ Fitting (now table) (now work) width (child .0) depth (column .0) ⌝ }
     ensures { λ r. ⌜ Fitted (now (table .entry)) width (child .0) depth (column .0) left (now (work .entry)) r (now (work .exit)) ⌝ }
 {
-    let mut node = child;
+    let mut node = NodeNo(child.0);
     let mut mode = Mode(1);
     let mut count: usize = 0;
     let mut at = depth;
-    let mut col = column;
+    let mut col = Column(column.0);
     let mut steps = left;
     let fits: bool = 'waiting: loop {
         'down: loop {
@@ -97,5 +122,9 @@ pub fn fitting(table: &[u32], work: &mut [u32], width: u32, child: NodeNo, depth
         node = NodeNo(work[at * 4]);
         mode = Mode(0);
     };
-    if fits { Fit::Yes(steps) } else { Fit::No(steps) }
+    if fits {
+        Fit::Yes(steps)
+    } else {
+        Fit::No(steps)
+    }
 }
