@@ -1,6 +1,8 @@
 -- What follows from the definitions.
+pub mod Case
+pub mod Marked
+pub mod Readings
 pub mod Meaning
 pub mod Laws
 pub mod Bridge
 pub mod Like
-pub mod Case
