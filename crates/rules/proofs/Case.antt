@@ -56,6 +56,11 @@ unfolding ascii-bytes
 at table chars width =
     record { table = table; text = ascii-bytes chars; width = width; limit = 1000000; room = 65536; slots = 4096; work = 16384 }
 
+-- the same with the table written by its nodes
+unfoldable pub on : List Node → String → ℕ → Given
+unfolding written at
+on nodes chars width = at (written nodes) chars width
+
 -- the same with this step limit, bytes of output and event records
 unfoldable pub lent : ℕ → ℕ → ℕ → Given → Given
 lent limit room slots g =

@@ -5,4 +5,6 @@ pub mod Readings
 pub mod Meaning
 pub mod Laws
 pub mod Bridge
+pub mod Hold
+pub mod Demand3
 pub mod Like
