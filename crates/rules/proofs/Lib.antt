@@ -7,4 +7,7 @@ pub mod Laws
 pub mod Bridge
 pub mod Hold
 pub mod Demand3
+pub mod Pairs
+pub mod Examples
+pub mod NotLaws
 pub mod Like
