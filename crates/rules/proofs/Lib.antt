@@ -10,4 +10,6 @@ pub mod Demand3
 pub mod Pairs
 pub mod Examples
 pub mod NotLaws
+pub mod Bounds
+pub mod Answers
 pub mod Like
