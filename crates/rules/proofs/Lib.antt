@@ -12,4 +12,5 @@ pub mod Examples
 pub mod NotLaws
 pub mod Bounds
 pub mod Answers
+pub mod Cleared
 pub mod Like

@@ -64,4 +64,4 @@ pub record Buffers : Type 0 where
 
 unfoldable pub buffers : Given → Report → Buffers
 buffers g r =
-    record { output = padded (r .bytes) (g .room); events = padded (wordsOf (r .events)) (g .slots * eventWords); work = padded [] (g .work) }
+    record { output = padded (r .bytes) (g .room); events = padded (wordsOf (r .events)) (g .slots * eventWords); work = replicate (g .work) 0 }
