@@ -9,7 +9,7 @@ use lib.Dec.{leb, ltb, eqb}
 use lib.ListN.{length, length-append}
 use borrow.Author.Tests.{leb-true, ltb-true, eqb-true, eqb-false}
 use Rattle.table.specs.Unfold.{Tree, nil, append, group, flatAlt, nest, hardline, text, annotated, union, align, fail}
-use Rattle.rules.specs.Layout.{Limits, Page, Mode, flat, broken, Entry, steps, bytes, events, Outcome, done, failed, refused, Fit, says, spent, nested, next, also, andThen, try, chosen, visit, look, fit, rest, step, put, event, lay, taken, fed, wrote, marked}
+use Rattle.rules.specs.Layout.{Limits, Page, Mode, flat, broken, Entry, steps, bytes, events, Outcome, done, failed, refused, Fit, says, spent, nested, also, andThen, try, chosen, visit, look, fit, rest, step, put, event, lay, taken, marked}
 
 module _ (L : Limits) where
   -- a page within the room for bytes and for events

@@ -1,16 +1,14 @@
 -- Where a run is not refused it ends as its document means.
 -- Assumes nothing.
 use Prim.Native.Nat.{ℕ, _+_}
-use mathlib.Core.Path.{_≡_, refl, sym, ap, _∙_, subst}
-use mathlib.Core.Bool.{Bool, true, false, _||_, _&&_}
-use mathlib.Core.List.{List, [], _∷_, _++_}
+use mathlib.Core.Bool.{Bool, true, false, _&&_}
+use mathlib.Core.List.{List, [], _∷_}
 use lib.Dec.{leb, ltb, eqb}
-use lib.ListN.{length, replicate}
-use Rattle.table.specs.Node.{Way}
+use lib.ListN.{length}
 use Rattle.table.specs.Unfold.{Tree, nil, append, group, flatAlt, nest, hardline, text, annotated, union, align, fail}
-use Rattle.rules.specs.Layout.{Limits, Page, Mode, flat, broken, Entry, Refusal, steps, bytes, events, number, Outcome, done, failed, refused, Report, report, layout, Fit, says, spent, next, also, andThen, try, chosen, visit, fit, rest, put, event, lay, taken, marked}
+use Rattle.rules.specs.Layout.{Limits, Page, Mode, flat, broken, Entry, Refusal, bytes, events, Outcome, done, failed, refused, Fit, says, spent, next, also, andThen, try, chosen, visit, fit, rest, put, event, lay, taken, marked}
 use Rattle.table.specs.Document.{doc}
-use Rattle.rules.proofs.Meaning.{Result, laid, gave-up, Meaning, alsoR, thenR, tryR, modeOf, byMode, mean}
+use Rattle.rules.proofs.Meaning.{Result, laid, gave-up, alsoR, thenR, tryR, modeOf, mean}
 
 -- a fit test that was not stopped says what is meant
 data FitMeets : Fit → Bool → Type 0 where

@@ -8,7 +8,7 @@ use Prim.Native.String.{String}
 use mathlib.Core.Bool.{Bool, true, false, _&&_}
 use mathlib.Core.List.{List, [], _∷_}
 use lib.Dec.{eqb}
-use Rattle.table.specs.Node.{Way, adds, subtracts, Node, nil, append, group, flatAlt, nest, hardline, text, annotated, union, align, fail, nodeAt}
+use Rattle.table.specs.Node.{adds, subtracts, Node, nil, append, group, flatAlt, nest, hardline, text, annotated, union, align, fail, nodeAt}
 use Rattle.table.specs.Kinds.{kinds, kindAt}
 use Rattle.table.specs.Utf8.{owed, wellFormed, ascii}
 use Rattle.table.specs.Fault.{columnsRight, faultOf, faultAt, firstFault, check}

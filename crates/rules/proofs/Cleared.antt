@@ -11,9 +11,9 @@ use lib.ListN.{length, getD, replicate, length-append, length-replicate, getD-re
 use lib.Seq.{getD-append-add}
 use Rattle.table.specs.Node.{Node, append, hardline, text, annotated, union}
 use Rattle.rules.specs.Layout.{Event, Report}
-use Rattle.rules.specs.Call.{Given, call, eventWords, wordsOf, padded, buffers, limits}
+use Rattle.rules.specs.Call.{Given, call, eventWords, wordsOf, padded, buffers}
 use Rattle.rules.proofs.Case.{same, on, lent, computed}
-use Rattle.rules.proofs.Answers.{Answered, answered}
+use Rattle.rules.proofs.Answers.{answered}
 
 -- ---- used and zero
 

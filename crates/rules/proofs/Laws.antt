@@ -2,14 +2,14 @@
 -- Assumes nothing.
 use Prim.Native.Nat.{ℕ, _+_}
 use native.Mathlib.Omega.{arith}
-use mathlib.Core.Path.{_≡_, refl, sym, ap, _∙_, fun-ext}
+use mathlib.Core.Path.{_≡_, refl, ap}
 use mathlib.Core.Bool.{Bool, true, false, _||_}
 use Rattle.table.specs.Node.{Way, adds, subtracts}
 use Rattle.rules.specs.Layout.{Page, Mode, flat, broken, nested}
 use Rattle.rules.specs.Law as D
 use Rattle.table.specs.Document.{Doc}
 use Rattle.rules.specs.Law.{Law, Within}
-use Rattle.rules.proofs.Meaning.{Result, laid, gave-up, Meaning, alsoR, thenR, tryR, modeOf, byMode, mean, nil′, append′, group′, flatAlt′, nest′, annotated′, union′, align′, fail′}
+use Rattle.rules.proofs.Meaning.{Result, laid, gave-up, Meaning, alsoR, thenR, tryR, modeOf, byMode, mean, nil′, append′, group′, flatAlt′, nest′, annotated′, union′, align′}
 
 then-assoc : (r : Result) (f g : Page → Result) → thenR (thenR r f) g ≡ thenR r (λ p. thenR (f p) g)
 then-assoc gave-up f g = refl

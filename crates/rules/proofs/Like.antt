@@ -2,14 +2,14 @@
 -- pages by any relation that layout keeps.
 -- Assumes nothing.
 use Prim.Native.Nat.{ℕ, _+_}
-use mathlib.Core.Path.{_≡_, refl, sym, ap, _∙_, subst}
-use mathlib.Core.Bool.{Bool, true, false, _||_}
+use mathlib.Core.Path.{_≡_, refl, ap, subst}
+use mathlib.Core.Bool.{Bool, true, false}
 use mathlib.Core.List.{List, [], _∷_}
 use lib.Dec.{eqb, leb, ltb}
 use lib.ListN.{length}
 use Rattle.table.specs.Node.{Way}
 use Rattle.table.specs.Unfold.{Tree, nil, append, group, flatAlt, nest, hardline, text, annotated, union, align, fail}
-use Rattle.rules.specs.Layout.{Limits, Page, Mode, flat, broken, Entry, Refusal, steps, bytes, events, Outcome, done, failed, refused, Fit, says, spent, nested, next, also, andThen, try, chosen, visit, fit, rest, put, event, lay, taken, fed, wrote, marked}
+use Rattle.rules.specs.Layout.{Limits, Page, Mode, flat, broken, Entry, Refusal, bytes, events, Outcome, done, failed, refused, Fit, says, spent, next, also, andThen, try, chosen, visit, fit, rest, put, event, lay, taken, fed, wrote, marked}
 
 module _ (N B : ℕ → ℕ → Type 0) (P : Page → Page → Type 0) where
   pub data TreeLike : Tree → Tree → Type 0 where

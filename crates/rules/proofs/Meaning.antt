@@ -5,7 +5,7 @@ use mathlib.Core.Bool.{Bool, true, false, _||_, _&&_}
 use mathlib.Core.List.{List}
 use lib.Dec.{leb, ltb}
 use Rattle.table.specs.Node.{Way}
-use Rattle.rules.specs.Layout.{Event, Page, Mode, flat, broken, nested, fed, wrote, marked}
+use Rattle.rules.specs.Layout.{Page, Mode, flat, broken, nested, fed, wrote, marked}
 use Rattle.table.specs.Document.{Doc, nil, append, group, flatAlt, nest, hardline, text, annotated, union, align, fail}
 
 -- the page and whether a Text laid ended past width; or a Fail was met

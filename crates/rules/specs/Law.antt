@@ -3,7 +3,7 @@
 use Prim.Native.Nat.{ℕ, _+_}
 use mathlib.Core.Path.{_≡_}
 use Rattle.table.specs.Node.{Way}
-use Rattle.table.specs.Fault.{Fault, check}
+use Rattle.table.specs.Fault.{check}
 use Rattle.table.specs.Unfold.{tree, root}
 use Rattle.table.specs.Document.{Doc, nil, append, group, flatAlt, nest, annotated, union, align, fail, doc}
 use Rattle.rules.specs.Layout.{Report}

@@ -1,7 +1,7 @@
 -- The layout rules of document 01, over what a table unfolds to: what a run is given and how it ends, what is written on the page,
 -- how trials and fit tests go on, the fit test, the layout of each kind, and the report. Sizes and validation are in Call.antt.
 -- Assumes nothing.
-use Prim.Native.Nat.{ℕ, zero, suc, _+_, _-_}
+use Prim.Native.Nat.{ℕ, _+_, _-_}
 use mathlib.Core.Bool.{Bool, true, false, _||_}
 use mathlib.Core.List.{List, [], _∷_, _++_}
 use lib.ListN.{length, replicate}
