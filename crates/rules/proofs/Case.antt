@@ -50,6 +50,18 @@ pub record Case : Type 0 where
   pub bytes : List ℕ
   pub events : List ℕ
 
+-- one written by a program: table, text, width, step limit, bytes of output, event records; then what it answers
+unfoldable pub case : List ℕ → List ℕ → ℕ → ℕ → ℕ → ℕ → ℕ → ℕ → ℕ → List ℕ → List ℕ → Case
+case table bytes width limit room slots answer place steps out events =
+    record {
+      given = record { table = table; text = bytes; width = width; limit = limit; room = room; slots = slots; work = 16384 };
+      answer = answer;
+      place = place;
+      steps = steps;
+      bytes = out;
+      events = events;
+    }
+
 -- this table, text and width, in the largest buffers and with the default steps
 unfoldable pub at : List ℕ → String → ℕ → Given
 unfolding ascii-bytes
