@@ -1,13 +1,13 @@
 -- The laws hold of the layout rules themselves: runs of two trees whose documents differ by one law at one place report alike.
 -- Assumes nothing.
 use Prim.Native.Nat.{ℕ}
-use mathlib.Core.Path.{_≡_, refl, sym, ap₂, subst}
+use mathlib.Core.Path.{_≡_, refl, ap₂, subst}
 use mathlib.Core.Bool.{true}
 use mathlib.Core.List.{[]}
 use Rattle.table.specs.Unfold.{Tree}
-use Rattle.table.specs.Document.{Doc, doc}
+use Rattle.table.specs.Document.{doc}
 use Rattle.rules.specs.Layout.{Limits, blank, broken, Refusal, steps, bytes, events, Outcome, refused, report, lay, layout}
-use Rattle.rules.specs.Law.{forth, back, Differ, Unrefused, Alike}
+use Rattle.rules.specs.Law.{Differ, Unrefused, Alike}
 use Rattle.rules.proofs.Meaning.{Result, Meaning, mean}
 use Rattle.rules.proofs.Laws.{differ}
 use Rattle.rules.proofs.Bridge.{Meets, is-done, is-failed, is-refused, after, lay-meets}
@@ -33,12 +33,10 @@ run-meets : (L : Limits) (t : Tree) → Meets (lay L t 0 broken [] blank 0) (mea
 unfolding meant after
 run-meets L t = lay-meets L t 0 broken [] _ 0
 
--- either way round, the two documents mean the same
-means-alike : {d e : Doc} → Differ d e → mean d ≡ mean e
-means-alike (forth r) = differ r
-means-alike (back r) = sym (differ r)
-
--- runs of any two trees, with any limits at one width
-pub laws-hold : (L L′ : Limits) (t u : Tree) → L .width ≡ L′ .width → Differ (doc t) (doc u) → Unrefused (layout L t) → Unrefused (layout L′ u) → Alike (layout L t) (layout L′ u)
+-- runs of any two trees that mean the same, with any limits at one width
+pub meanings-hold : (L L′ : Limits) (t u : Tree) → L .width ≡ L′ .width → mean (doc t) ≡ mean (doc u) → Unrefused (layout L t) → Unrefused (layout L′ u) → Alike (layout L t) (layout L′ u)
 unfolding layout
-laws-hold L L′ t u e d = agree (subst (Meets _) (ap₂ meant e (means-alike d)) (run-meets L t)) (run-meets L′ u)
+meanings-hold L L′ t u e d = agree (subst (Meets _) (ap₂ meant e d) (run-meets L t)) (run-meets L′ u)
+
+pub laws-hold : (L L′ : Limits) (t u : Tree) → L .width ≡ L′ .width → Differ (doc t) (doc u) → Unrefused (layout L t) → Unrefused (layout L′ u) → Alike (layout L t) (layout L′ u)
+laws-hold L L′ t u e d = meanings-hold L L′ t u e (differ d)

@@ -2,13 +2,13 @@
 -- Assumes nothing.
 use Prim.Native.Nat.{ℕ, _+_}
 use native.Mathlib.Omega.{arith}
-use mathlib.Core.Path.{_≡_, refl, ap}
+use mathlib.Core.Path.{_≡_, refl, sym, ap}
 use mathlib.Core.Bool.{Bool, true, false, _||_}
 use Rattle.table.specs.Node.{Way, adds, subtracts}
 use Rattle.rules.specs.Layout.{Page, Mode, flat, broken, nested}
 use Rattle.rules.specs.Law as D
 use Rattle.table.specs.Document.{Doc}
-use Rattle.rules.specs.Law.{Law, Within}
+use Rattle.rules.specs.Law.{Law, Within, Differ}
 use Rattle.rules.proofs.Meaning.{Result, laid, gave-up, Meaning, alsoR, thenR, tryR, modeOf, byMode, mean, nil′, append′, group′, flatAlt′, nest′, annotated′, union′, align′}
 
 then-assoc : (r : Result) (f g : Page → Result) → thenR (thenR r f) g ≡ thenR r (λ p. thenR (f p) g)
@@ -94,17 +94,22 @@ law (D.fail-drops a) = refl
 law (D.union-twins a) = union-twins (mean a)
 law (D.flatAlt-twins a) = flatAlt-twins (mean a)
 
--- at one place too
-pub differ : {d e : Doc} → Within Law d e → mean d ≡ mean e
+-- what relates documents that mean the same does so at one place too
+pub at-one-place : {R : Doc → Doc → Type 0} → ((d e : Doc) → R d e → mean d ≡ mean e) → {d e : Doc} → Within R d e → mean d ≡ mean e
 unfolding mean
-differ (D.here l) = law l
-differ (D.in-append-first b r) = ap (λ x. append′ x (mean b)) (differ r)
-differ (D.in-append-second a r) = ap (append′ (mean a)) (differ r)
-differ (D.in-group r) = ap group′ (differ r)
-differ (D.in-flatAlt-broken b r) = ap (λ x. flatAlt′ x (mean b)) (differ r)
-differ (D.in-flatAlt-flat a r) = ap (flatAlt′ (mean a)) (differ r)
-differ (D.in-nest k w r) = ap (λ x. nest′ x k w) (differ r)
-differ (D.in-annotated l r) = ap (λ x. annotated′ x l) (differ r)
-differ (D.in-union-first b r) = ap (λ x. union′ x (mean b)) (differ r)
-differ (D.in-union-second a r) = ap (union′ (mean a)) (differ r)
-differ (D.in-align r) = ap align′ (differ r)
+at-one-place f (D.here r) = f _ _ r
+at-one-place f (D.in-append-first b r) = ap (λ x. append′ x (mean b)) (at-one-place f r)
+at-one-place f (D.in-append-second a r) = ap (append′ (mean a)) (at-one-place f r)
+at-one-place f (D.in-group r) = ap group′ (at-one-place f r)
+at-one-place f (D.in-flatAlt-broken b r) = ap (λ x. flatAlt′ x (mean b)) (at-one-place f r)
+at-one-place f (D.in-flatAlt-flat a r) = ap (flatAlt′ (mean a)) (at-one-place f r)
+at-one-place f (D.in-nest k w r) = ap (λ x. nest′ x k w) (at-one-place f r)
+at-one-place f (D.in-annotated l r) = ap (λ x. annotated′ x l) (at-one-place f r)
+at-one-place f (D.in-union-first b r) = ap (λ x. union′ x (mean b)) (at-one-place f r)
+at-one-place f (D.in-union-second a r) = ap (union′ (mean a)) (at-one-place f r)
+at-one-place f (D.in-align r) = ap align′ (at-one-place f r)
+
+-- so two documents that differ by one law at one place, either way round, mean the same
+pub differ : {d e : Doc} → Differ d e → mean d ≡ mean e
+differ (D.forth r) = at-one-place (λ d e. law) r
+differ (D.back r) = sym (at-one-place (λ d e. law) r)
