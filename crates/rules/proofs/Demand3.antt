@@ -5,25 +5,25 @@
 -- Assumes nothing.
 use mathlib.Core.Path.{_≡_, refl, subst⁻¹}
 use mathlib.Core.Bool.{Bool, true, false}
-use lib.Dec.{eqb}
 use Rattle.table.specs.Pick.{pick}
-use Rattle.table.specs.Fault.{Fault, check}
+use Rattle.table.specs.Fault.{Fault, none, check}
 use Rattle.table.specs.Unfold.{tree, root}
 use Rattle.rules.specs.Layout.{Report, layout}
 use Rattle.rules.specs.Call.{Given, buffersRight, limits, refusal, unlessFault, call}
 use Rattle.rules.specs.Law.{Differ, document, ValidTable, Unrefused, Alike}
+use Rattle.table.proofs.Accept.{of-accepted}
 use Rattle.rules.proofs.Hold.{laws-hold}
 
 -- a valid table that is not refused for sizes is run
 runs : (g : Given) → ValidTable g → Unrefused (call g) → call g ≡ layout (limits g) (tree (g .table) (g .text) (root (g .table)))
 unfolding call
-runs g v u = by (buffersRight g) (check (g .table) (g .text)) v (u .for-sizes)
+runs g v u = by (buffersRight g) (check (g .table) (g .text)) (of-accepted (g .table) (g .text) v) (u .for-sizes)
   where
     laid : Report
     laid = layout (limits g) (tree (g .table) (g .text) (root (g .table)))
 
-    by : (b : Bool) (f : Fault) → f .answer ≡ 0 → (pick b (unlessFault f laid) (refusal 1 0) .answer ≡ 1 → ⊥) → pick b (unlessFault f laid) (refusal 1 0) ≡ laid
-    by true f e n = subst⁻¹ (λ a. pick (eqb a 0) laid (refusal a (f .place)) ≡ laid) e refl
+    by : (b : Bool) (f : Fault) → f ≡ none → (pick b (unlessFault f laid) (refusal 1 0) .answer ≡ 1 → ⊥) → pick b (unlessFault f laid) (refusal 1 0) ≡ laid
+    by true f e n = subst⁻¹ (λ f. unlessFault f laid ≡ laid) e refl
     by false f e n = absurd (n refl)
 
 -- that the text is the same is not used: documents hold the bytes of their texts

@@ -3,7 +3,7 @@
 use Prim.Native.Nat.{ℕ, _+_}
 use mathlib.Core.Path.{_≡_}
 use Rattle.table.specs.Node.{Way}
-use Rattle.table.specs.Fault.{check}
+use Rattle.table.specs.Accepted.{Accepted}
 use Rattle.table.specs.Unfold.{tree, root}
 use Rattle.table.specs.Document.{Doc, nil, append, group, flatAlt, nest, annotated, union, align, fail, doc}
 use Rattle.rules.specs.Layout.{Report}
@@ -53,9 +53,9 @@ Differ d e = EitherWay (Within Law) d e
 abbrev pub document : Given → Doc
 document g = doc (tree (g .table) (g .text) (root (g .table)))
 
--- a valid table: no node has a fault
+-- its table, with its text, is valid
 abbrev pub ValidTable : Given → Type 0
-ValidTable g = check (g .table) (g .text) .answer ≡ 0
+ValidTable g = Accepted (g .table) (g .text)
 
 -- not refused for sizes, steps or room
 pub record Unrefused (r : Report) : Type 0 where
