@@ -6,7 +6,7 @@ use mathlib.Core.List.{List, [], _∷_}
 use lib.Dec.{leb, ltb, eqb}
 use lib.ListN.{length}
 use Rattle.table.specs.Unfold.{Tree, nil, append, group, flatAlt, nest, hardline, text, annotated, union, align, fail}
-use Rattle.rules.specs.Layout.{Limits, Page, Mode, flat, broken, Entry, Refusal, bytes, events, Outcome, done, failed, refused, Fit, says, spent, next, also, andThen, try, chosen, visit, fit, rest, put, event, lay, taken, marked}
+use Rattle.rules.specs.Layout.{Limits, Page, Mode, flat, broken, Entry, Refusal, bytes, events, Outcome, done, failed, refused, Fit, says, spent, next, also, andThen, try, chosen, visit, look, fit, rest, step, put, event, lay, taken, marked}
 use Rattle.table.specs.Document.{doc}
 use Rattle.rules.proofs.Meaning.{Result, laid, gave-up, alsoR, thenR, tryR, modeOf, mean}
 
@@ -52,25 +52,31 @@ module _ (L : Limits) where
       by true = h
       by false = k (s + 1)
 
+  look-is : (n : ℕ) {b : Bool} (s : ℕ) {go : ℕ → Fit} → ((s : ℕ) → FitMeets (go s) b) → FitMeets (look L n s go) b
+  look-is n s k = visit-is FitMeets s stopped k
+
+  step-is : (n : ℕ) {r : Result} (s : ℕ) {go : ℕ → Outcome} → ((s : ℕ) → Meets (go s) r) → Meets (step L n s go) r
+  step-is n s k = visit-is Meets s is-refused k
+
   fit-meets : (t : Tree) (m : Mode) (k : ℕ → ℕ → Fit) (r : ℕ → Bool) → ((c s : ℕ) → FitMeets (k c s) (r c)) → (c s : ℕ) → FitMeets (fit L t m k c s) (mean (doc t) .reads (L .width) m r c)
   unfolding fit mean doc
-  fit-meets (nil n) m k r h c s = visit-is FitMeets s stopped (λ s. h c s)
-  fit-meets (append n a b) m k r h c s = visit-is FitMeets s stopped (λ s. fit-meets a m _ _ (fit-meets b m k r h) c s)
-  fit-meets (group n a) m k r h c s = visit-is FitMeets s stopped (λ s. fit-meets a m k r h c s)
-  fit-meets (flatAlt n a b) flat k r h c s = visit-is FitMeets s stopped (λ s. fit-meets b flat k r h c s)
-  fit-meets (flatAlt n a b) broken k r h c s = visit-is FitMeets s stopped (λ s. fit-meets a broken k r h c s)
-  fit-meets (nest n a d way) m k r h c s = visit-is FitMeets s stopped (λ s. fit-meets a m k r h c s)
-  fit-meets (hardline n) flat k r h c s = visit-is FitMeets s stopped (λ s. said)
-  fit-meets (hardline n) broken k r h c s = visit-is FitMeets s stopped (λ s. said)
-  fit-meets (text n bs cols) m k r h c s = visit-is FitMeets s stopped (λ s. by (leb (c + cols) (L .width)) s)
+  fit-meets (nil n) m k r h c s = look-is n s (λ s. h c s)
+  fit-meets (append n a b) m k r h c s = look-is n s (λ s. fit-meets a m _ _ (fit-meets b m k r h) c s)
+  fit-meets (group n a) m k r h c s = look-is n s (λ s. fit-meets a m k r h c s)
+  fit-meets (flatAlt n a b) flat k r h c s = look-is n s (λ s. fit-meets b flat k r h c s)
+  fit-meets (flatAlt n a b) broken k r h c s = look-is n s (λ s. fit-meets a broken k r h c s)
+  fit-meets (nest n a d way) m k r h c s = look-is n s (λ s. fit-meets a m k r h c s)
+  fit-meets (hardline n) flat k r h c s = look-is n s (λ s. said)
+  fit-meets (hardline n) broken k r h c s = look-is n s (λ s. said)
+  fit-meets (text n bs cols) m k r h c s = look-is n s (λ s. by (leb (c + cols) (L .width)) s)
     where
       by : (b : Bool) (s : ℕ) → FitMeets (elim b [ true ↦ k (c + cols) s | false ↦ says false s ]) (b && r (c + cols))
       by true s = h (c + cols) s
       by false s = said
-  fit-meets (annotated n a l) m k r h c s = visit-is FitMeets s stopped (λ s. fit-meets a m k r h c s)
-  fit-meets (union n a b) m k r h c s = visit-is FitMeets s stopped (λ s. fit-meets b m k r h c s)
-  fit-meets (align n a) m k r h c s = visit-is FitMeets s stopped (λ s. fit-meets a m k r h c s)
-  fit-meets (fail n) m k r h c s = visit-is FitMeets s stopped (λ s. said)
+  fit-meets (annotated n a l) m k r h c s = look-is n s (λ s. fit-meets a m k r h c s)
+  fit-meets (union n a b) m k r h c s = look-is n s (λ s. fit-meets b m k r h c s)
+  fit-meets (align n a) m k r h c s = look-is n s (λ s. fit-meets a m k r h c s)
+  fit-meets (fail n) m k r h c s = look-is n s (λ s. said)
 
   -- what the fit test says of the waiting nodes
   unfoldable pub after : List Entry → ℕ → Bool
@@ -100,19 +106,19 @@ module _ (L : Limits) where
 
   pub lay-meets : (t : Tree) (i : ℕ) (m : Mode) (ws : List Entry) (p : Page) (s : ℕ) → Meets (lay L t i m ws p s) (mean (doc t) .lays (L .width) i m (after ws) (next ws) p)
   unfolding lay mean doc after
-  lay-meets (nil n) i m ws p s = visit-is Meets s is-refused (λ s. is-done)
+  lay-meets (nil n) i m ws p s = step-is n s (λ s. is-done)
   lay-meets (append n a b) i m ws p s =
-      visit-is Meets s is-refused (λ s. then-meets (lay-meets a i m (record { what = b; ind = i } ∷ ws) p s) (λ p s. lay-meets b i m ws p s))
-  lay-meets (group n a) i flat ws p s = visit-is Meets s is-refused (λ s. lay-meets a i flat ws p s)
+      step-is n s (λ s. then-meets (lay-meets a i m (record { what = b; ind = i } ∷ ws) p s) (λ p s. lay-meets b i m ws p s))
+  lay-meets (group n a) i flat ws p s = step-is n s (λ s. lay-meets a i flat ws p s)
   lay-meets (group n a) i broken ws p s =
-      visit-is Meets s is-refused (λ s. chosen-meets {g = λ m. mean (doc a) .lays (L .width) i m (after ws) (next ws) p} (fit-meets a flat (rest L ws) (after ws) (rest-meets ws) (p .column) s) (λ m s. lay-meets a i m ws p s))
-  lay-meets (flatAlt n a b) i flat ws p s = visit-is Meets s is-refused (λ s. lay-meets b i flat ws p s)
-  lay-meets (flatAlt n a b) i broken ws p s = visit-is Meets s is-refused (λ s. lay-meets a i broken ws p s)
-  lay-meets (nest n a k way) i m ws p s = visit-is Meets s is-refused (λ s. lay-meets a _ m ws p s)
-  lay-meets (hardline n) i m ws p s = visit-is Meets s is-refused (λ s. put-meets _ _ s)
-  lay-meets (text n bs cols) i m ws p s = visit-is Meets s is-refused (λ s. put-meets _ _ s)
+      step-is n s (λ s. chosen-meets {g = λ m. mean (doc a) .lays (L .width) i m (after ws) (next ws) p} (fit-meets a flat (rest L ws) (after ws) (rest-meets ws) (p .column) s) (λ m s. lay-meets a i m ws p s))
+  lay-meets (flatAlt n a b) i flat ws p s = step-is n s (λ s. lay-meets b i flat ws p s)
+  lay-meets (flatAlt n a b) i broken ws p s = step-is n s (λ s. lay-meets a i broken ws p s)
+  lay-meets (nest n a k way) i m ws p s = step-is n s (λ s. lay-meets a _ m ws p s)
+  lay-meets (hardline n) i m ws p s = step-is n s (λ s. put-meets _ _ s)
+  lay-meets (text n bs cols) i m ws p s = step-is n s (λ s. put-meets _ _ s)
   lay-meets (annotated n a l) i m ws p s =
-      visit-is Meets s is-refused (λ s. then-meets (event-meets n 1 l p s) (λ p s. then-meets (lay-meets a i m ws p s) (λ p s. event-meets n 0 l p s)))
-  lay-meets (union n a b) i m ws p s = visit-is Meets s is-refused (λ s. try-meets (lay-meets a i m ws p s) (λ s. lay-meets b i m ws p s))
-  lay-meets (align n a) i m ws p s = visit-is Meets s is-refused (λ s. lay-meets a _ m ws p s)
-  lay-meets (fail n) i m ws p s = visit-is Meets s is-refused (λ s. is-failed)
+      step-is n s (λ s. then-meets (event-meets n 1 l p s) (λ p s. then-meets (lay-meets a i m ws p s) (λ p s. event-meets n 0 l p s)))
+  lay-meets (union n a b) i m ws p s = step-is n s (λ s. try-meets (lay-meets a i m ws p s) (λ s. lay-meets b i m ws p s))
+  lay-meets (align n a) i m ws p s = step-is n s (λ s. lay-meets a _ m ws p s)
+  lay-meets (fail n) i m ws p s = step-is n s (λ s. is-failed)

@@ -1,5 +1,5 @@
--- Runs of like trees are alike: for 2026-05 (nodes renumbered) and 2026-14 (labels changed), one law. Trees are like by how their nodes' numbers and their labels are;
--- pages by any relation that layout keeps.
+-- Like trees run alike. Trees are like if they differ only in their nodes' numbers, by N, and in their labels, by B; pages by any relation P that
+-- layout keeps. `lay-like` stands last: it serves renumbered nodes (N any, B and P equality) and changed labels (P over the events' labels).
 -- Assumes nothing.
 use Prim.Native.Nat.{ℕ, _+_}
 use mathlib.Core.Path.{_≡_, refl, ap, subst}
@@ -9,9 +9,11 @@ use lib.Dec.{eqb, leb, ltb}
 use lib.ListN.{length}
 use Rattle.table.specs.Node.{Way}
 use Rattle.table.specs.Unfold.{Tree, nil, append, group, flatAlt, nest, hardline, text, annotated, union, align, fail}
-use Rattle.rules.specs.Layout.{Limits, Page, Mode, flat, broken, Entry, Refusal, bytes, events, Outcome, done, failed, refused, Fit, says, spent, next, also, andThen, try, chosen, visit, fit, rest, put, event, lay, taken, fed, wrote, marked}
+use Rattle.rules.specs.Layout.{Limits, Page, Mode, flat, broken, Entry, Refusal, bytes, events, Outcome, done, failed, refused, Fit, says, spent, next, also, andThen, try, chosen, visit, look, fit, rest, step, put, event, lay, taken, fed, wrote, marked}
 
 module _ (N B : ℕ → ℕ → Type 0) (P : Page → Page → Type 0) where
+  -- ---- what is like
+
   pub data TreeLike : Tree → Tree → Type 0 where
     nil-like : {n n′ : ℕ} → N n n′ → TreeLike (nil n) (nil n′)
     append-like : {n n′ : ℕ} {a a′ b b′ : Tree} → N n n′ → TreeLike a a′ → TreeLike b b′ → TreeLike (append n a b) (append n′ a′ b′)
@@ -25,10 +27,12 @@ module _ (N B : ℕ → ℕ → Type 0) (P : Page → Page → Type 0) where
     align-like : {n n′ : ℕ} {a a′ : Tree} → N n n′ → TreeLike a a′ → TreeLike (align n a) (align n′ a′)
     fail-like : {n n′ : ℕ} → N n n′ → TreeLike (fail n) (fail n′)
 
+  -- waiting nodes, with the same indentation
   pub data WaitLike : List Entry → List Entry → Type 0 where
     none-wait : WaitLike [] []
     one-waits : {t t′ : Tree} {i : ℕ} {ws ws′ : List Entry} → TreeLike t t′ → WaitLike ws ws′ → WaitLike (record { what = t; ind = i } ∷ ws) (record { what = t′; ind = i } ∷ ws′)
 
+  -- outcomes, with the same steps; the place of 8 is 0 in both
   pub data Like : Outcome → Outcome → Type 0 where
     both-done : {p q : Page} {o : Bool} {s : ℕ} → P p q → Like (done p o s) (done q o s)
     both-failed : {s : ℕ} → Like (failed s) (failed s)
@@ -47,6 +51,8 @@ module _ (N B : ℕ → ℕ → Type 0) (P : Page → Page → Type 0) where
     pub keeps-wrote : (bs : List ℕ) (cols : ℕ) (p q : Page) → P p q → P (wrote bs cols p) (wrote bs cols q)
     pub keeps-fed : (i : ℕ) (p q : Page) → P p q → P (fed i p) (fed i q)
     pub keeps-marked : (m l l′ : ℕ) (p q : Page) → B l l′ → P p q → P (marked m l p) (marked m l′ q)
+
+  -- ---- one thing after another
 
   like-also : (o : Bool) {x y : Outcome} → Like x y → Like (also o x) (also o y)
   like-also o (both-done h) = both-done h
@@ -85,30 +91,40 @@ module _ (N B : ℕ → ℕ → Type 0) (P : Page → Page → Type 0) where
         by true = h
         by false = k (s + 1)
 
+    look-like : {n n′ : ℕ} (s : ℕ) {go go′ : ℕ → Fit} → N n n′ → ((s : ℕ) → FitLike (go s) (go′ s)) → FitLike (look L n s go) (look L n′ s go′)
+    look-like s h k = visit-like FitLike s (both-spent h) k
+
+    step-like : {n n′ : ℕ} (s : ℕ) {go go′ : ℕ → Outcome} → N n n′ → ((s : ℕ) → Like (go s) (go′ s)) → Like (step L n s go) (step L n′ s go′)
+    step-like s h k = visit-like Like s (both-refused h) k
+
+    -- ---- the fit test
+
     fit-like : {t t′ : Tree} → TreeLike t t′ → (m : Mode) (k k′ : ℕ → ℕ → Fit) → ((c s : ℕ) → FitLike (k c s) (k′ c s)) → (c s : ℕ) → FitLike (fit L t m k c s) (fit L t′ m k′ c s)
     unfolding fit
-    fit-like (nil-like h) m k k′ e c s = visit-like FitLike s (both-spent h) (λ s. e c s)
-    fit-like (append-like h a b) m k k′ e c s = visit-like FitLike s (both-spent h) (λ s. fit-like a m _ _ (fit-like b m k k′ e) c s)
-    fit-like (group-like h a) m k k′ e c s = visit-like FitLike s (both-spent h) (λ s. fit-like a m k k′ e c s)
-    fit-like (flatAlt-like h a b) flat k k′ e c s = visit-like FitLike s (both-spent h) (λ s. fit-like b flat k k′ e c s)
-    fit-like (flatAlt-like h a b) broken k k′ e c s = visit-like FitLike s (both-spent h) (λ s. fit-like a broken k k′ e c s)
-    fit-like (nest-like h a) m k k′ e c s = visit-like FitLike s (both-spent h) (λ s. fit-like a m k k′ e c s)
-    fit-like (hardline-like h) flat k k′ e c s = visit-like FitLike s (both-spent h) (λ s. both-say)
-    fit-like (hardline-like h) broken k k′ e c s = visit-like FitLike s (both-spent h) (λ s. both-say)
-    fit-like (text-like {cols = cols} h) m k k′ e c s = visit-like FitLike s (both-spent h) (λ s. by (leb (c + cols) (L .width)) s)
+    fit-like (nil-like h) m k k′ e c s = look-like s h (λ s. e c s)
+    fit-like (append-like h a b) m k k′ e c s = look-like s h (λ s. fit-like a m _ _ (fit-like b m k k′ e) c s)
+    fit-like (group-like h a) m k k′ e c s = look-like s h (λ s. fit-like a m k k′ e c s)
+    fit-like (flatAlt-like h a b) flat k k′ e c s = look-like s h (λ s. fit-like b flat k k′ e c s)
+    fit-like (flatAlt-like h a b) broken k k′ e c s = look-like s h (λ s. fit-like a broken k k′ e c s)
+    fit-like (nest-like h a) m k k′ e c s = look-like s h (λ s. fit-like a m k k′ e c s)
+    fit-like (hardline-like h) flat k k′ e c s = look-like s h (λ s. both-say)
+    fit-like (hardline-like h) broken k k′ e c s = look-like s h (λ s. both-say)
+    fit-like (text-like {cols = cols} h) m k k′ e c s = look-like s h (λ s. by (leb (c + cols) (L .width)) s)
       where
         by : (b : Bool) (s : ℕ) → FitLike (elim b [ true ↦ k (c + cols) s | false ↦ says false s ]) (elim b [ true ↦ k′ (c + cols) s | false ↦ says false s ])
         by true s = e (c + cols) s
         by false s = both-say
-    fit-like (annotated-like h a l) m k k′ e c s = visit-like FitLike s (both-spent h) (λ s. fit-like a m k k′ e c s)
-    fit-like (union-like h a b) m k k′ e c s = visit-like FitLike s (both-spent h) (λ s. fit-like b m k k′ e c s)
-    fit-like (align-like h a) m k k′ e c s = visit-like FitLike s (both-spent h) (λ s. fit-like a m k k′ e c s)
-    fit-like (fail-like h) m k k′ e c s = visit-like FitLike s (both-spent h) (λ s. both-say)
+    fit-like (annotated-like h a l) m k k′ e c s = look-like s h (λ s. fit-like a m k k′ e c s)
+    fit-like (union-like h a b) m k k′ e c s = look-like s h (λ s. fit-like b m k k′ e c s)
+    fit-like (align-like h a) m k k′ e c s = look-like s h (λ s. fit-like a m k k′ e c s)
+    fit-like (fail-like h) m k k′ e c s = look-like s h (λ s. both-say)
 
     rest-like : {ws ws′ : List Entry} → WaitLike ws ws′ → (c s : ℕ) → FitLike (rest L ws c s) (rest L ws′ c s)
     unfolding rest
     rest-like none-wait c s = both-say
     rest-like (one-waits t w) c s = fit-like t broken _ _ (λ c s. rest-like w c s) c s
+
+    -- ---- layout
 
     module _ (K : Kept) where
       put-like : (p q : Page) (o : Bool) (s : ℕ) → P p q → taken p ≡ taken q → Like (put L p o s) (put L q o s)
@@ -132,23 +148,23 @@ module _ (N B : ℕ → ℕ → Type 0) (P : Page → Page → Type 0) where
 
       pub lay-like : {t t′ : Tree} → TreeLike t t′ → (i : ℕ) (m : Mode) {ws ws′ : List Entry} → WaitLike ws ws′ → (p q : Page) (s : ℕ) → P p q → Like (lay L t i m ws p s) (lay L t′ i m ws′ q s)
       unfolding lay
-      lay-like (nil-like h) i m w p q s e = visit-like Like s (both-refused h) (λ s. both-done e)
-      lay-like (append-like h a b) i m w p q s e = visit-like Like s (both-refused h) (λ s. like-then (lay-like a i m (one-waits b w) p q s e) (λ p q s e. lay-like b i m w p q s e))
-      lay-like (group-like h a) i flat w p q s e = visit-like Like s (both-refused h) (λ s. lay-like a i flat w p q s e)
+      lay-like (nil-like h) i m w p q s e = step-like s h (λ s. both-done e)
+      lay-like (append-like h a b) i m w p q s e = step-like s h (λ s. like-then (lay-like a i m (one-waits b w) p q s e) (λ p q s e. lay-like b i m w p q s e))
+      lay-like (group-like h a) i flat w p q s e = step-like s h (λ s. lay-like a i flat w p q s e)
       lay-like (group-like {a = t} {a′ = t′} h a) i broken {ws} {ws′} w p q s e =
-          visit-like Like s (both-refused h)
+          step-like s h
           (λ s. like-chosen (subst (λ c. FitLike (fit L t flat (rest L ws) (p .column) s) (fit L t′ flat (rest L ws′) c s)) (K .same-column p q e) (fit-like a flat _ _ (rest-like w) (p .column) s)) (λ m s. lay-like a i m w p q s e))
-      lay-like (flatAlt-like h a b) i flat w p q s e = visit-like Like s (both-refused h) (λ s. lay-like b i flat w p q s e)
-      lay-like (flatAlt-like h a b) i broken w p q s e = visit-like Like s (both-refused h) (λ s. lay-like a i broken w p q s e)
-      lay-like (nest-like h a) i m w p q s e = visit-like Like s (both-refused h) (λ s. lay-like a _ m w p q s e)
+      lay-like (flatAlt-like h a b) i flat w p q s e = step-like s h (λ s. lay-like b i flat w p q s e)
+      lay-like (flatAlt-like h a b) i broken w p q s e = step-like s h (λ s. lay-like a i broken w p q s e)
+      lay-like (nest-like h a) i m w p q s e = step-like s h (λ s. lay-like a _ m w p q s e)
       lay-like (hardline-like h) i m {ws} {ws′} w p q s e =
-          visit-like Like s (both-refused h) (λ s. subst (λ j. Like (put L (fed (next ws i) p) false s) (put L (fed j q) false s)) (next-like w i) (put-kept false false s (K .keeps-fed _ p q e) refl))
+          step-like s h (λ s. subst (λ j. Like (put L (fed (next ws i) p) false s) (put L (fed j q) false s)) (next-like w i) (put-kept false false s (K .keeps-fed _ p q e) refl))
       lay-like (text-like {bs = bs} {cols = cols} h) i m w p q s e =
-          visit-like Like s (both-refused h) (λ s. put-kept _ _ s (K .keeps-wrote bs cols p q e) (ap (λ c. ltb (L .width) (c + cols)) (K .same-column p q e)))
+          step-like s h (λ s. put-kept _ _ s (K .keeps-wrote bs cols p q e) (ap (λ c. ltb (L .width) (c + cols)) (K .same-column p q e)))
       lay-like (annotated-like {n = n} {n′ = n′} {l = l} {l′ = l′} h a b) i m w p q s e =
-          visit-like Like s (both-refused h)
+          step-like s h
           (λ s. like-then (event-like n n′ 1 l l′ p q s h b e) (λ p q s e. like-then (lay-like a i m w p q s e) (λ p q s e. event-like n n′ 0 l l′ p q s h b e)))
-      lay-like (union-like h a b) i m w p q s e = visit-like Like s (both-refused h) (λ s. like-try (lay-like a i m w p q s e) (λ s. lay-like b i m w p q s e))
+      lay-like (union-like h a b) i m w p q s e = step-like s h (λ s. like-try (lay-like a i m w p q s e) (λ s. lay-like b i m w p q s e))
       lay-like (align-like {a = t} {a′ = t′} h a) i m {ws} {ws′} w p q s e =
-          visit-like Like s (both-refused h) (λ s. subst (λ j. Like (lay L t (p .column) m ws p s) (lay L t′ j m ws′ q s)) (K .same-column p q e) (lay-like a (p .column) m w p q s e))
-      lay-like (fail-like h) i m w p q s e = visit-like Like s (both-refused h) (λ s. both-failed)
+          step-like s h (λ s. subst (λ j. Like (lay L t (p .column) m ws p s) (lay L t′ j m ws′ q s)) (K .same-column p q e) (lay-like a (p .column) m w p q s e))
+      lay-like (fail-like h) i m w p q s e = step-like s h (λ s. both-failed)
