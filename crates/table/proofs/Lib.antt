@@ -1,5 +1,6 @@
 -- The laws of the node table, with no code in sight.
 pub mod Tests
 pub mod Accept
+pub mod Octets
 pub mod Sound
 pub mod Unfolded

@@ -1,7 +1,11 @@
--- Tests joined by `&&`, `||` and `pick`: what they say, and how they come to be true. Assumes nothing.
+-- Tests joined by `&&`, `||` and `pick`: what they say, and how they come to be true; a test of all of a list, computed, read at one place.
+-- Assumes nothing.
 use mathlib.Core.Path.{_≡_, refl, sym}
 use mathlib.Core.Bool.{Bool, true, false, not, _&&_, _||_, true≢false}
-use Prim.Native.Nat.{ℕ}
+use mathlib.Core.List.{List, [], _∷_}
+use Prim.Native.Nat.{ℕ, zero, suc, _<_}
+use native.Mathlib.Nat.{not-suc-le-zero, le-of-suc-le-suc}
+use lib.ListN.{length, getD}
 use Rattle.table.specs.Pick.{pick}
 
 pub and-true : (p q : Bool) → p && q ≡ true → (p ≡ true) × (q ≡ true)
@@ -30,3 +34,13 @@ passed false x y h e = absurd (h e)
 
 pub passes : (p : Bool) (x y : ℕ) → p ≡ true → x ≡ 0 → pick p x y ≡ 0
 passes p x y e f = rw (e, f)
+
+-- a test of all of a list
+abbrev pub all : {A : Type 0} → (A → Bool) → List A → Bool
+all f [] = true
+all f (x ∷ xs) = f x && all f xs
+
+pub all-at : {A : Type 0} (f : A → Bool) (xs : List A) (d : A) → all f xs ≡ true → (k : ℕ) → k < length xs → f (getD xs k d) ≡ true
+all-at f [] d e k h = absurd (not-suc-le-zero h)
+all-at f (x ∷ xs) d e zero h = and-true (f x) (all f xs) e .0
+all-at f (x ∷ xs) d e (suc k) h = all-at f xs d (and-true (f x) (all f xs) e .1) k (le-of-suc-le-suc h)
