@@ -69,9 +69,11 @@ within-same b from upto p q r t = ap₂ _&&_ (low (leb (r .low) from) refl) (hig
   where
     parts : ((leb (r .low) from || ltb upto (r .low)) ≡ true) × ((ltb (r .high) from || leb upto (r .high)) ≡ true)
     parts = and-true _ _ t
+
     low : (x : Bool) → leb (r .low) from ≡ x → leb (r .low) b ≡ leb (r .low) from
     low true e = le-leb (r .low) b (omega (arith, leb-true (r .low) from e)) ∙ sym e
     low false e = lt-leb (r .low) b (omega (arith, ltb-true upto (r .low) (or-true _ _ (parts .0) e))) ∙ sym e
+
     high : (x : Bool) → ltb (r .high) from ≡ x → leb b (r .high) ≡ leb from (r .high)
     high true e = let l = ltb-true (r .high) from e in lt-leb b (r .high) (omega arith) ∙ sym (lt-leb from (r .high) (omega arith))
     high false e = let l = leb-true upto (r .high) (or-true _ _ (parts .1) e) in le-leb b (r .high) (omega arith) ∙ sym (le-leb from (r .high) (omega arith))
@@ -91,10 +93,10 @@ firsts =
     ∷ []
 
 -- no end of a range lies between two bounds: the first octets between them owe the same
-pub start-same : (b from upto : ℕ) → all (apart from upto) firsts ≡ true → from ≤ b → b ≤ upto → start from ≡ start b
+pub start-same : (b from upto : ℕ) → all (λ i. apart from upto) 0 firsts ≡ true → from ≤ b → b ≤ upto → start from ≡ start b
 start-same b from upto t p q =
     let same : (k : ℕ) → k < 9 → within (getD firsts k tail) b ≡ within (getD firsts k tail) from =
-          λ k h. within-same b from upto p q (getD firsts k tail) (all-at (apart from upto) firsts tail t k h) in
+    λ k h. within-same b from upto p q (getD firsts k tail) (all-at (λ i. apart from upto) firsts tail t k h) in
     rw (same 0 (omega arith), same 1 (omega arith), same 2 (omega arith), same 3 (omega arith), same 4 (omega arith), same 5 (omega arith), same 6 (omega arith), same 7 (omega arith), same 8 (omega arith))
 
 -- ---- what is owed

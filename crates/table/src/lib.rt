@@ -18,17 +18,50 @@ pub struct KindInfo {
 // For each kind how many children it has and which words it uses: read by validation and by the file writer.
 // Nil, Append, Group, FlatAlt, Nest, Hardline, Text, Annotated, Union, Align, Fail.
 const KINDS: [KindInfo; 11] = [
-    KindInfo { children: 0, words: 0 },
-    KindInfo { children: 2, words: 2 },
-    KindInfo { children: 1, words: 1 },
-    KindInfo { children: 2, words: 2 },
-    KindInfo { children: 1, words: 3 },
-    KindInfo { children: 0, words: 0 },
-    KindInfo { children: 0, words: 3 },
-    KindInfo { children: 1, words: 2 },
-    KindInfo { children: 2, words: 2 },
-    KindInfo { children: 1, words: 1 },
-    KindInfo { children: 0, words: 0 },
+    KindInfo {
+        children: 0,
+        words: 0,
+    },
+    KindInfo {
+        children: 2,
+        words: 2,
+    },
+    KindInfo {
+        children: 1,
+        words: 1,
+    },
+    KindInfo {
+        children: 2,
+        words: 2,
+    },
+    KindInfo {
+        children: 1,
+        words: 3,
+    },
+    KindInfo {
+        children: 0,
+        words: 0,
+    },
+    KindInfo {
+        children: 0,
+        words: 3,
+    },
+    KindInfo {
+        children: 1,
+        words: 2,
+    },
+    KindInfo {
+        children: 2,
+        words: 2,
+    },
+    KindInfo {
+        children: 1,
+        words: 1,
+    },
+    KindInfo {
+        children: 0,
+        words: 0,
+    },
 ];
 
 // The whole table. A reader takes it once, before its loop: a constant array is built anew at every read.
@@ -95,34 +128,70 @@ fn start_of(b: u8) -> Next
     ensures { λ r. ⌜ starts r ≡ start b ⌝ }
 {
     if b <= 0x7F {
-        return Next::Owes(Owing { count: 0, low: 0x80, high: 0xBF });
+        return Next::Owes(Owing {
+            count: 0,
+            low: 0x80,
+            high: 0xBF,
+        });
     }
     if b < 0xC2 {
         return Next::Wrong;
     }
     if b <= 0xDF {
-        return Next::Owes(Owing { count: 1, low: 0x80, high: 0xBF });
+        return Next::Owes(Owing {
+            count: 1,
+            low: 0x80,
+            high: 0xBF,
+        });
     }
     if b <= 0xE0 {
-        return Next::Owes(Owing { count: 2, low: 0xA0, high: 0xBF });
+        return Next::Owes(Owing {
+            count: 2,
+            low: 0xA0,
+            high: 0xBF,
+        });
     }
     if b <= 0xEC {
-        return Next::Owes(Owing { count: 2, low: 0x80, high: 0xBF });
+        return Next::Owes(Owing {
+            count: 2,
+            low: 0x80,
+            high: 0xBF,
+        });
     }
     if b <= 0xED {
-        return Next::Owes(Owing { count: 2, low: 0x80, high: 0x9F });
+        return Next::Owes(Owing {
+            count: 2,
+            low: 0x80,
+            high: 0x9F,
+        });
     }
     if b <= 0xEF {
-        return Next::Owes(Owing { count: 2, low: 0x80, high: 0xBF });
+        return Next::Owes(Owing {
+            count: 2,
+            low: 0x80,
+            high: 0xBF,
+        });
     }
     if b <= 0xF0 {
-        return Next::Owes(Owing { count: 3, low: 0x90, high: 0xBF });
+        return Next::Owes(Owing {
+            count: 3,
+            low: 0x90,
+            high: 0xBF,
+        });
     }
     if b <= 0xF3 {
-        return Next::Owes(Owing { count: 3, low: 0x80, high: 0xBF });
+        return Next::Owes(Owing {
+            count: 3,
+            low: 0x80,
+            high: 0xBF,
+        });
     }
     if b <= 0xF4 {
-        return Next::Owes(Owing { count: 3, low: 0x80, high: 0x8F });
+        return Next::Owes(Owing {
+            count: 3,
+            low: 0x80,
+            high: 0x8F,
+        });
     }
     Next::Wrong
 }
@@ -140,14 +209,22 @@ fn octet(o: Owing, b: u8) -> Next
     if o.high < b {
         return Next::Wrong;
     }
-    Next::Owes(Owing { count: o.count - 1, low: 0x80, high: 0xBF })
+    Next::Owes(Owing {
+        count: o.count - 1,
+        low: 0x80,
+        high: 0xBF,
+    })
 }
 
 // Whether the bytes are well-formed UTF-8 by RFC 3629.
 fn well_formed(bytes: &[u8]) -> bool
     ensures { λ r. ⌜ r ≡ wellFormed (now (bytes .entry)) ⌝ }
 {
-    let mut o = Owing { count: 0, low: 0x80, high: 0xBF };
+    let mut o = Owing {
+        count: 0,
+        low: 0x80,
+        high: 0xBF,
+    };
     let mut i = 0;
     while i < bytes.len() {
         let next = octet(o, bytes[i]);
@@ -210,11 +287,24 @@ fn text_fault(text: &[u8], plain: bool, a: u32, b: u32, c: u32) -> u32
         }
         return 5;
     }
-    if columns_right(&text[at..end], c) { 0 } else { 5 }
+    if columns_right(&text[at..end], c) {
+        0
+    } else {
+        5
+    }
 }
 
 // 0, or the first of 2, 3, 4, 5.
-fn node_fault(text: &[u8], plain: bool, info: KindInfo, n: u32, k: u32, a: u32, b: u32, c: u32) -> u32
+fn node_fault(
+    text: &[u8],
+    plain: bool,
+    info: KindInfo,
+    n: u32,
+    k: u32,
+    a: u32,
+    b: u32,
+    c: u32,
+) -> u32
     requires { ⌜ (plain ≡ ascii (now text)) × (k < 11) × (info ≡ kindAt k) ⌝ }
     ensures { λ r. ⌜ r ≡ faultOf (now (text .entry)) n k a b c ⌝ }
 {
@@ -248,16 +338,34 @@ fn first_fault(table: &[u32], text: &[u8], plain: bool) -> Fault
         let place = n as u32;
         let k = table[at];
         if 11 <= k {
-            return Fault { answer: 2, place: NodeNo(place) };
+            return Fault {
+                answer: 2,
+                place: NodeNo(place),
+            };
         }
         let info = kinds[k as usize];
-        let answer = node_fault(text, plain, info, place, k, table[at + 1], table[at + 2], table[at + 3]);
+        let answer = node_fault(
+            text,
+            plain,
+            info,
+            place,
+            k,
+            table[at + 1],
+            table[at + 2],
+            table[at + 3],
+        );
         if answer != 0 {
-            return Fault { answer, place: NodeNo(place) };
+            return Fault {
+                answer,
+                place: NodeNo(place),
+            };
         }
         n += 1;
     }
-    Fault { answer: 0, place: NodeNo(0) }
+    Fault {
+        answer: 0,
+        place: NodeNo(0),
+    }
 }
 
 fn sizes_right(words: usize, bytes: usize) -> bool
@@ -271,7 +379,10 @@ pub fn validate(table: &[u32], text: &[u8]) -> Fault
     ensures { λ r. ⌜ (r .answer ≡ check (now (table .entry)) (now (text .entry)) .answer) × (r .place .0 ≡ check (now (table .entry)) (now (text .entry)) .place) ⌝ }
 {
     if !sizes_right(table.len(), text.len()) {
-        return Fault { answer: 1, place: NodeNo(0) };
+        return Fault {
+            answer: 1,
+            place: NodeNo(0),
+        };
     }
     first_fault(table, text, below_128(text))
 }

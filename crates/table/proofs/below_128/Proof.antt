@@ -32,13 +32,13 @@ loop-less : tie.Need-loop-less Inv-loop μ-loop
 loop-less c = search needs
 
 loop-again : tie.Need-loop-again Inv-loop μ-loop
-loop-again c = 
+loop-again c =
     let L = c .before .before .loop in
     let bytes = c .before .before .before .args .bytes .now in
     (omega arith, ap (λ (p : Bool). p && ltb (getD bytes (L .i) 0) 128) (L .inv .1) ∙ ascii-more bytes (L .i) (omega arith))
 
 returns : tie.Need-returns Inv-loop μ-loop
-returns c = 
+returns c =
     let L = c .before .loop in
     let bytes = c .before .before .args .bytes .now in
     let e : L .i ≡ length bytes = omega arith in

@@ -13,19 +13,19 @@ start-of-requires : tie.Need-start-of-requires
 start-of-requires c κs = search needs
 
 returns : tie.Need-returns
-returns c = 
+returns c =
     let o = c .before .before .before .args .o in
     owed-first (o .count) (o .low) (o .high) (c .before .before .before .args .b) (c .start-of .result) (c .before .if1 .taken) (c .start-of .ensures)
 
 returns-2 : tie.Need-returns-2
-returns-2 c = 
+returns-2 c =
     let o = c .before .before .before .before .args .o in
     let b = c .before .before .before .before .args .b in
     let out : within (to (o .low) (o .high)) b ≡ false = rw (lt-leb (o .low) b (c .if2 .taken)) in
     owed-outside (o .count) (o .low) (o .high) b (c .before .before .if1 .left) out
 
 returns-3 : tie.Need-returns-3
-returns-3 c = 
+returns-3 c =
     let o = c .before .before .before .before .before .before .args .o in
     let b = c .before .before .before .before .before .before .args .b in
     let out : within (to (o .low) (o .high)) b ≡ false = rw (le-leb (o .low) b (c .before .before .if2 .left), lt-leb b (o .high) (c .if3 .taken)) in
@@ -35,7 +35,7 @@ sub-t4 : tie.Need-sub-t4
 sub-t4 c = search needs
 
 returns-4 : tie.Need-returns-4
-returns-4 c = 
+returns-4 c =
     let o = c .before .before .before .before .before .before .before .args .o in
     let b = c .before .before .before .before .before .before .before .args .b in
     let in-it : within (to (o .low) (o .high)) b ≡ true = rw (le-leb (o .low) b (c .before .before .before .if2 .left), le-leb b (o .high) (c .before .if3 .left)) in

@@ -36,7 +36,7 @@ enum-told : tie.Need-enum-told Inv-loop μ-loop
 enum-told c = search needs
 
 returns : tie.Need-returns Inv-loop μ-loop
-returns c = 
+returns c =
     let L = c .before .before .before .before .before .loop in
     let bytes = c .before .before .before .before .before .before .before .args .bytes .now in
     let r = c .before .before .octet in
@@ -49,14 +49,14 @@ loop-less : tie.Need-loop-less Inv-loop μ-loop
 loop-less c = search needs
 
 loop-again : tie.Need-loop-again Inv-loop μ-loop
-loop-again c = 
+loop-again c =
     let L = c .before .before .before .before .before .before .loop in
     let bytes = c .before .before .before .before .before .before .before .before .args .bytes .now in
     let r = c .before .before .before .octet in
     (omega arith, ap (λ (x : Next). goesOn x (drop (L .i + 1) bytes)) (sym (c .before .next .given .1)) ∙ owed-read bytes (L .i) (L .o) (r .result) (omega arith) (r .ensures) ∙ L .inv .1)
 
 returns-2 : tie.Need-returns-2 Inv-loop μ-loop
-returns-2 c = 
+returns-2 c =
     let L = c .before .before .loop in
     let bytes = c .before .before .before .before .args .bytes .now in
     let e : L .i ≡ length bytes = omega arith in
