@@ -7,3 +7,4 @@ pub mod Fault
 pub mod Unfold
 pub mod Document
 pub mod Valid
+pub mod Accepted
