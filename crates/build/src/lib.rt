@@ -2,19 +2,21 @@
 // No public method has a `requires`. Each says its whole outcome by a definition of specs/Constructors.antt.
 // In order: what is asked before anything is added; reading the counted nodes; one node; composed ones.
 ghost use mathlib.Core.Path.{_≡_};
-ghost use mathlib.Core.Bool.{_&&_};
+ghost use mathlib.Core.Bool.{true, _&&_};
 ghost use mathlib.Core.List.{List, [], _∷_, _++_};
 ghost use Prim.Native.Nat.{ℕ, _+_, _*_, _≤_, _<_};
 ghost use lib.ListN.{length, take, drop};
-ghost use lib.Dec.{ltb};
+ghost use lib.Dec.{eqb};
 ghost use Rattle.table.specs.Node.{word};
-ghost use Rattle.build.specs.Sheet.{countsOf, counted, over, add};
+ghost use Rattle.build.specs.Sheet.{countsOf, counted, over, older, add};
+ghost use Rattle.table.specs.Utf8.{ascii};
 ghost use Rattle.build.specs.Parts.{stays};
+ghost use Rattle.build.specs.Solid.{solid};
 ghost use Rattle.build.specs.Outcome.{fits, asked, outcome, made};
-ghost use Rattle.build.specs.Constructors.{has, hasAll, nestRight};
-ghost use Rattle.build.specs.Constructors as made;
-
-use table::{Column, Indent, NodeNo};
+ghost use Rattle.build.specs.Constructors.{has, hasAll, nestRight, nilMade, hardlineMade, failMade, flatAltMade, annotateMade, unionMade, alignMade, appendMade, groupMade, nestMade};
+use table::Column;
+use table::Indent;
+use table::NodeNo;
 
 // How many nodes and text bytes are in use.
 pub struct Counts {
@@ -67,6 +69,25 @@ fn fits(before: u32, more: usize, limit: u32, lent: usize) -> bool
     after <= limit && after <= lent
 }
 
+// Amount 0 to 1,000; 0 adds, 1 subtracts.
+fn nest_right(amount: Indent, way: u32) -> bool
+    ensures { λ r. ⌜ r ≡ nestRight (amount .0) way ⌝ }
+{
+    amount.0 <= 1000 && way <= 1
+}
+
+// Puts four words where node n stands.
+fn put(table: &mut [u32], n: usize, k: u32, a: u32, b: u32, c: u32)
+    requires { ⌜ n * 4 + 3 < length (now table) ⌝ }
+    ensures { λ _. ⌜ now (table .exit) ≡ over (take (n * 4) (now (table .entry)) ++ (k ∷ a ∷ b ∷ c ∷ [])) (now (table .entry)) ⌝ }
+{
+    let at = n * 4;
+    table[at] = k;
+    table[at + 1] = a;
+    table[at + 2] = b;
+    table[at + 3] = c;
+}
+
 impl Counts {
     // The first refusal, in document 01's order, of what is asked for over a table and a text of these lengths.
     pub fn ask(self, words: usize, bytes: usize, asks: Asks) -> Asked
@@ -94,5 +115,258 @@ impl Counts {
             return Asked::Denied(Why::Nodes);
         }
         Asked::Granted
+    }
+
+    // ---- reading the counted nodes
+
+    // Word i of node n; 0 where n is not counted.
+    fn word(self, table: &[u32], n: NodeNo, i: usize) -> u32
+        requires { ⌜ i < 4 ⌝ }
+        ensures { λ r. ⌜ r ≡ word (take (self .nodes * 4) (now (table .entry))) (n .0) i ⌝ }
+    {
+        let n = n.0;
+        let at = n as usize * 4 + i;
+        if self.nodes <= n {
+            return 0;
+        }
+        if table.len() <= at {
+            return 0;
+        }
+        table[at]
+    }
+
+    fn is_nil(self, table: &[u32], n: NodeNo) -> bool
+        ensures { λ r. ⌜ r ≡ eqb (word (take (self .nodes * 4) (now (table .entry))) (n .0) 0) 0 ⌝ }
+    {
+        self.word(table, n, 0) == 0
+    }
+
+    // Whether n is a present node.
+    fn has(self, n: NodeNo) -> bool
+        ensures { λ r. ⌜ r ≡ has self (n .0) ⌝ }
+    {
+        n.0 < self.nodes
+    }
+
+    fn has_both(self, a: NodeNo, b: NodeNo) -> bool
+        ensures { λ r. ⌜ r ≡ has self (a .0) && has self (b .0) ⌝ }
+    {
+        self.has(a) && self.has(b)
+    }
+
+    fn has_all(self, ns: &[u32]) -> bool
+        ensures { λ r. ⌜ r ≡ hasAll self (now (ns .entry)) ⌝ }
+    {
+        let mut i = 0;
+        while i < ns.len() {
+            if self.nodes <= ns[i] {
+                return false;
+            }
+            i += 1;
+        }
+        true
+    }
+
+    // How many of the nodes are no Nil.
+    fn solid(self, table: &[u32], ns: &[u32]) -> usize
+        ensures { λ r. ⌜ r ≡ solid (take (self .nodes * 4) (now (table .entry))) (now (ns .entry)) ⌝ }
+    {
+        let mut count = 0;
+        let mut i = 0;
+        while i < ns.len() {
+            if self.is_nil(table, NodeNo(ns[i])) {
+                i += 1;
+                continue;
+            }
+            count += 1;
+            i += 1;
+        }
+        count
+    }
+
+    // Whether all bytes of a part of the text are below 128.
+    fn plain(text: &[u8], from: usize, size: usize) -> bool
+        requires { ⌜ from + size ≤ length (now text) ⌝ }
+        ensures { λ r. ⌜ r ≡ ascii (take size (drop from (now (text .entry)))) ⌝ }
+    {
+        let mut i = 0;
+        while i < size {
+            if text[from + i] >= 128 {
+                return false;
+            }
+            i += 1;
+        }
+        true
+    }
+
+    // Whether Group gives the node back.
+    fn stays(self, table: &[u32], text: &[u8], n: NodeNo) -> bool
+        ensures { λ r. ⌜ r ≡ stays (counted self (now (table .entry)) (now (text .entry))) (n .0) ⌝ }
+    {
+        let k = self.word(table, n, 0);
+        if k == 0 {
+            return true;
+        }
+        if k == 2 {
+            return true;
+        }
+        if k != 6 {
+            return false;
+        }
+        let from = self.word(table, n, 1) as usize;
+        let size = self.word(table, n, 2) as usize;
+        if (self.bytes as usize) < from + size {
+            return false;
+        }
+        if text.len() < from + size {
+            return false;
+        }
+        Counts::plain(text, from, size)
+    }
+
+    // ---- one node
+
+    // The next node, where there is room for it.
+    fn add(self, table: &mut [u32], k: u32, a: u32, b: u32, c: u32) -> Made
+        requires { ⌜ (self .nodes < 1024) × (self .nodes * 4 + 3 < length (now table)) ⌝ }
+        ensures { λ r. ⌜ (r ≡ Made.Node (countsOf (self .nodes + 1) (self .bytes)) (record { 0 = self .nodes })) × (now (table .exit) ≡ over (take (self .nodes * 4) (now (table .entry)) ++ (k ∷ a ∷ b ∷ c ∷ [])) (now (table .entry))) ⌝ }
+    {
+        let nodes = self.nodes;
+        put(table, nodes as usize, k, a, b, c);
+        Made::Node(
+            Counts {
+                nodes: nodes + 1,
+                bytes: self.bytes,
+            },
+            NodeNo(nodes),
+        )
+    }
+
+    // A node of these words, if its operands are present and its amount is right.
+    fn node(self, table: &mut [u32], text: &[u8], present: bool, amount: bool, k: u32, a: u32, b: u32, c: u32) -> Made
+        ensures { λ r. ⌜ outcome r (now (table .exit)) (now (text .entry)) ≡ made self (now (table .entry)) (now (text .entry)) present amount true (λ s. add s k a b c) ⌝ }
+    {
+        let asked = self.ask(
+            table.len(),
+            text.len(),
+            Asks {
+                present: present,
+                amount: amount,
+                text: true,
+                nodes: 1,
+                bytes: 0,
+            },
+        );
+        if let Asked::Denied(why) = asked {
+            return Made::Refused(why);
+        }
+        self.add(table, k, a, b, c)
+    }
+
+    // An older node, given back.
+    fn older(self, table: &[u32], text: &[u8], present: bool, amount: bool, n: NodeNo) -> Made
+        ensures { λ r. ⌜ outcome r (now (table .entry)) (now (text .entry)) ≡ made self (now (table .entry)) (now (text .entry)) present amount true (λ s. older s (n .0)) ⌝ }
+    {
+        let asked = self.ask(
+            table.len(),
+            text.len(),
+            Asks {
+                present: present,
+                amount: amount,
+                text: true,
+                nodes: 0,
+                bytes: 0,
+            },
+        );
+        if let Asked::Denied(why) = asked {
+            return Made::Refused(why);
+        }
+        Made::Node(self, n)
+    }
+
+    pub fn nil(self, table: &mut [u32], text: &[u8]) -> Made
+        ensures { λ r. ⌜ outcome r (now (table .exit)) (now (text .entry)) ≡ nilMade self (now (table .entry)) (now (text .entry)) ⌝ }
+    {
+        self.node(table, text, true, true, 0, 0, 0, 0)
+    }
+
+    pub fn hardline(self, table: &mut [u32], text: &[u8]) -> Made
+        ensures { λ r. ⌜ outcome r (now (table .exit)) (now (text .entry)) ≡ hardlineMade self (now (table .entry)) (now (text .entry)) ⌝ }
+    {
+        self.node(table, text, true, true, 5, 0, 0, 0)
+    }
+
+    pub fn fail(self, table: &mut [u32], text: &[u8]) -> Made
+        ensures { λ r. ⌜ outcome r (now (table .exit)) (now (text .entry)) ≡ failMade self (now (table .entry)) (now (text .entry)) ⌝ }
+    {
+        self.node(table, text, true, true, 10, 0, 0, 0)
+    }
+
+    pub fn flat_alt(self, table: &mut [u32], text: &[u8], broken: NodeNo, flat: NodeNo) -> Made
+        ensures { λ r. ⌜ outcome r (now (table .exit)) (now (text .entry)) ≡ flatAltMade self (now (table .entry)) (now (text .entry)) (broken .0) (flat .0) ⌝ }
+    {
+        let present = self.has_both(broken, flat);
+        self.node(table, text, present, true, 3, broken.0, flat.0, 0)
+    }
+
+    pub fn annotate(self, table: &mut [u32], text: &[u8], n: NodeNo, label: u32) -> Made
+        ensures { λ r. ⌜ outcome r (now (table .exit)) (now (text .entry)) ≡ annotateMade self (now (table .entry)) (now (text .entry)) (n .0) label ⌝ }
+    {
+        let present = self.has(n);
+        self.node(table, text, present, true, 7, n.0, label, 0)
+    }
+
+    pub fn union(self, table: &mut [u32], text: &[u8], first: NodeNo, second: NodeNo) -> Made
+        ensures { λ r. ⌜ outcome r (now (table .exit)) (now (text .entry)) ≡ unionMade self (now (table .entry)) (now (text .entry)) (first .0) (second .0) ⌝ }
+    {
+        let present = self.has_both(first, second);
+        self.node(table, text, present, true, 8, first.0, second.0, 0)
+    }
+
+    pub fn align(self, table: &mut [u32], text: &[u8], n: NodeNo) -> Made
+        ensures { λ r. ⌜ outcome r (now (table .exit)) (now (text .entry)) ≡ alignMade self (now (table .entry)) (now (text .entry)) (n .0) ⌝ }
+    {
+        let present = self.has(n);
+        self.node(table, text, present, true, 9, n.0, 0, 0)
+    }
+
+    // A Nil gives the other node, the left one looked at first.
+    pub fn append(self, table: &mut [u32], text: &[u8], a: NodeNo, b: NodeNo) -> Made
+        ensures { λ r. ⌜ outcome r (now (table .exit)) (now (text .entry)) ≡ appendMade self (now (table .entry)) (now (text .entry)) (a .0) (b .0) ⌝ }
+    {
+        let present = self.has_both(a, b);
+        if self.is_nil(table, a) {
+            return self.older(table, text, present, true, b);
+        }
+        if self.is_nil(table, b) {
+            return self.older(table, text, present, true, a);
+        }
+        self.node(table, text, present, true, 1, a.0, b.0, 0)
+    }
+
+    // Group, Nil and Text of bytes below 128 are given back.
+    pub fn group(self, table: &mut [u32], text: &[u8], n: NodeNo) -> Made
+        ensures { λ r. ⌜ outcome r (now (table .exit)) (now (text .entry)) ≡ groupMade self (now (table .entry)) (now (text .entry)) (n .0) ⌝ }
+    {
+        let present = self.has(n);
+        if self.stays(table, text, n) {
+            return self.older(table, text, present, true, n);
+        }
+        self.node(table, text, present, true, 2, n.0, 0, 0)
+    }
+
+    // Nil is given back, and anything at amount 0. Way 0 adds, 1 subtracts.
+    pub fn nest(self, table: &mut [u32], text: &[u8], n: NodeNo, amount: Indent, way: u32) -> Made
+        ensures { λ r. ⌜ outcome r (now (table .exit)) (now (text .entry)) ≡ nestMade self (now (table .entry)) (now (text .entry)) (n .0) (amount .0) way ⌝ }
+    {
+        let present = self.has(n);
+        let right = nest_right(amount, way);
+        if self.is_nil(table, n) {
+            return self.older(table, text, present, right, n);
+        }
+        if amount.0 == 0 {
+            return self.older(table, text, present, right, n);
+        }
+        self.node(table, text, present, right, 4, n.0, amount.0, way)
     }
 }

@@ -1,0 +1,5 @@
+-- The laws of the constructors, with no code in sight.
+pub mod Grow
+mod Lists
+mod Stand
+mod Leaf
