@@ -3,3 +3,4 @@ pub mod Grow
 mod Lists
 mod Stand
 mod Leaf
+mod Choices

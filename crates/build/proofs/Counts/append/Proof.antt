@@ -1,60 +1,52 @@
+-- `append`: a Nil gives the other.
 use borrow.Author.Needs.{needs}
+use mathlib.Core.Path.{_≡_, refl, sym, _∙_}
+use mathlib.Core.Bool.{true}
+use Rattle.build.specs.Sheet.{counted, older, add}
+use Rattle.build.proofs.Stand.{made-same}
+use Rattle.build.specs.Parts.{append}
+use Rattle.build.proofs.Choices.{append-left, append-right, append-both}
 use Rattle.build.proofs.Counts.append.Statement.{statement}
 use Rattle.build.proofs.Counts.append.Tie as tie
-use Rattle.build.proofs.Counts.append.Reads as reads
-use Rattle.build.proofs.Counts.append.Lts as lts
-use Rattle.build.proofs.Counts.has_both.Reads as has-both-reads
-use Rattle.build.proofs.Counts.is_nil.Reads as is-nil-reads
-use Rattle.build.proofs.Counts.node.Reads as node-reads
-use Rattle.build.proofs.Counts.older.Reads as older-reads
 
--- src/lib.rt:337:13
 has-both-requires : tie.Need-has-both-requires
 has-both-requires c κs = search needs
 
--- src/lib.rt:338:12
 is-nil-requires : tie.Need-is-nil-requires
 is-nil-requires c κs = search needs
 
--- src/lib.rt:339:13
 older-requires : tie.Need-older-requires
 older-requires c κs = search needs
 
--- src/lib.rt:339:13
 same-length : tie.Need-same-length
 same-length c = search needs
 
--- src/lib.rt:339:13
 returns : tie.Need-returns
-returns c = ?
+unfolding counted
+returns c = simp (← (c .before .before .before .before .before .has-both .ensures)) (c .older .ensures ∙ sym (made-same (c .before .before .before .before .before .before .before .before .args .self) (c .before .before .before .before .before .before .before .before .args .table .now) (c .before .before .before .before .before .before .before .before .args .text .now) (c .before .before .before .before .before .has-both .result) true true (λ s. append s (c .before .before .before .before .before .before .before .before .args .a .0) (c .before .before .before .before .before .before .before .before .args .b .0)) (λ s. older s (c .before .before .before .before .before .before .before .before .args .b .0)) (append-left (counted (c .before .before .before .before .before .before .before .before .args .self) (c .before .before .before .before .before .before .before .before .args .table .now) (c .before .before .before .before .before .before .before .before .args .text .now)) (c .before .before .before .before .before .before .before .before .args .a .0) (c .before .before .before .before .before .before .before .before .args .b .0) (sym (c .before .before .before .is-nil .ensures) ∙ c .before .before .if1 .taken))))
 
--- src/lib.rt:341:12
 is-nil-requires-2 : tie.Need-is-nil-requires-2
 is-nil-requires-2 c κs = search needs
 
--- src/lib.rt:342:13
 older-requires-2 : tie.Need-older-requires-2
 older-requires-2 c κs = search needs
 
--- src/lib.rt:342:13
 same-length-2 : tie.Need-same-length-2
 same-length-2 c = search needs
 
--- src/lib.rt:342:13
 returns-2 : tie.Need-returns-2
-returns-2 c = ?
+unfolding counted
+returns-2 c = simp (← (c .before .before .before .before .before .before .before .before .has-both .ensures)) (c .older2 .ensures ∙ sym (made-same (c .before .before .before .before .before .before .before .before .before .before .before .args .self) (c .before .before .before .before .before .before .before .before .before .before .before .args .table .now) (c .before .before .before .before .before .before .before .before .before .before .before .args .text .now) (c .before .before .before .before .before .before .before .before .has-both .result) true true (λ s. append s (c .before .before .before .before .before .before .before .before .before .before .before .args .a .0) (c .before .before .before .before .before .before .before .before .before .before .before .args .b .0)) (λ s. older s (c .before .before .before .before .before .before .before .before .before .before .before .args .a .0)) (append-right (counted (c .before .before .before .before .before .before .before .before .before .before .before .args .self) (c .before .before .before .before .before .before .before .before .before .before .before .args .table .now) (c .before .before .before .before .before .before .before .before .before .before .before .args .text .now)) (c .before .before .before .before .before .before .before .before .before .before .before .args .a .0) (c .before .before .before .before .before .before .before .before .before .before .before .args .b .0) (sym (c .before .before .before .before .before .before .is-nil .ensures) ∙ c .before .before .before .before .before .if1 .left) (sym (c .before .before .before .is-nil2 .ensures) ∙ c .before .before .if2 .taken))))
 
--- src/lib.rt:344:9
 node-requires : tie.Need-node-requires
 node-requires c κs = search needs
 
--- src/lib.rt:334:5
 same-length-3 : tie.Need-same-length-3
 same-length-3 c = search needs
 
--- src/lib.rt:334:5
 returns-3 : tie.Need-returns-3
-returns-3 c = ?
+unfolding counted
+returns-3 c = simp (← (c .before .before .before .before .before .before .before .before .before .before .has-both .ensures)) (c .before .before .node .ensures ∙ sym (made-same (c .before .before .before .before .before .before .before .before .before .before .before .before .before .args .self) (c .before .before .before .before .before .before .before .before .before .before .before .before .before .args .table .now) (c .before .before .before .before .before .before .before .before .before .before .before .before .before .args .text .now) (c .before .before .before .before .before .before .before .before .before .before .has-both .result) true true (λ s. append s (c .before .before .before .before .before .before .before .before .before .before .before .before .before .args .a .0) (c .before .before .before .before .before .before .before .before .before .before .before .before .before .args .b .0)) (λ s. add s 1 (c .before .before .before .before .before .before .before .before .before .before .before .before .before .args .a .0) (c .before .before .before .before .before .before .before .before .before .before .before .before .before .args .b .0) 0) (append-both (counted (c .before .before .before .before .before .before .before .before .before .before .before .before .before .args .self) (c .before .before .before .before .before .before .before .before .before .before .before .before .before .args .table .now) (c .before .before .before .before .before .before .before .before .before .before .before .before .before .args .text .now)) (c .before .before .before .before .before .before .before .before .before .before .before .before .before .args .a .0) (c .before .before .before .before .before .before .before .before .before .before .before .before .before .args .b .0) (sym (c .before .before .before .before .before .before .before .before .is-nil .ensures) ∙ c .before .before .before .before .before .before .before .if1 .left) (sym (c .before .before .before .before .before .is-nil2 .ensures) ∙ c .before .before .before .before .if2 .left))))
 
 pub append-spec : {M : Type 1} → statement M
 append-spec =
