@@ -15,7 +15,8 @@ use Rattle.build.specs.declared.Made.the-variants.{Node, Refused}
 use Rattle.build.specs.declared.Asked.the-variants.{Granted, Denied}
 use Rattle.build.specs.Sheet.{Sheet, Built, countsOf, counted, over, older, add}
 use Rattle.build.specs.Outcome.{asked, outcome, added, made}
-use Rattle.build.proofs.Stand.{Allowed, allowed, over-front, made-granted, made-denied}
+use Rattle.build.proofs.Room.{Allowed, allowed}
+use Rattle.build.proofs.Stand.{over-front, made-granted, made-denied}
 
 module _ (c : Counts) (table text : List ℕ) (present amount : Bool) where
   -- an older node is asked for with nothing to add

@@ -1,6 +1,7 @@
 -- The laws of the constructors, with no code in sight.
 pub mod Grow
 mod Lists
+mod Room
 mod Stand
 mod Leaf
 mod Choices

@@ -1,118 +1,27 @@
 -- How a constructor that is put together of others goes on from part to part.
---     asks       what is known where the whole was granted
 --     Stands     counts, table and text, where a sheet was built over a first table and text
---     start, part, taken, done   before the first part, over one, its answer taken apart, after the last
+--     start, part, taken, never, done   before the first part, over one, its answer taken apart, after the last
+--     begin      the whole, asked for: all of its room is there
 -- Assumes nothing.
-use Prim.Native.Nat.{ℕ, _+_, _-_, _*_, _/_, _≤_, _<_}
+use Prim.Native.Nat.{ℕ, _+_, _-_, _*_, _/_, _≤_}
 use native.Mathlib.Omega.{arith}
-use native.Mathlib.Decide.{decLt}
-use mathlib.Core.Path.{_≡_, refl, sym, ap, _∙_, subst}
-use mathlib.Core.Bool.{Bool, true, false, not, _&&_, _||_, true≢false}
-use mathlib.Core.List.{List, [], _∷_, _++_}
-use lib.ListN.{length, take, drop, length-append, length-take, length-drop, take-append-drop}
-use lib.Seq.{length-take-le, take-at, drop-at, drop-append-add, drop-drop}
-use lib.Dec.{eqb, ltb, leb}
-use borrow.Author.Tests.{ltb-true, ltb-false, leb-true, eqb-true, not-false, le-ltb, le-leb, lt-ltb, eq-eqb, ne-eqb}
-use Rattle.table.specs.Pick.{pick}
+use mathlib.Core.Path.{_≡_, refl, sym, ap, _∙_}
+use mathlib.Core.Bool.{Bool, true, false}
+use mathlib.Core.List.{List, _++_}
+use lib.ListN.{length, take, drop, length-append, length-drop, take-append-drop}
+use lib.Seq.{length-take-le, take-at, drop-append-add, drop-drop}
+use borrow.Author.Tests.{ltb-false}
 use Rattle.table.specs.declared.NodeNo.{NodeNo}
 use Rattle.build.specs.declared.Counts.{Counts}
 use Rattle.build.specs.declared.Why.{Why}
-use Rattle.build.specs.declared.Why.the-variants.{Sizes, Operand, Amount, Text, Bytes, Nodes}
 use Rattle.build.specs.declared.Made.{Made}
 use Rattle.build.specs.declared.Made.the-variants.{Node, Refused}
 use Rattle.build.specs.declared.Asked.{Asked}
 use Rattle.build.specs.declared.Asked.the-variants.{Granted, Denied}
 use Rattle.build.specs.Sheet.{Sheet, Built, counted, over}
-use Rattle.build.specs.Outcome.{past, fits, asked, Outcome, outcome, added, settled, made}
+use Rattle.build.specs.Outcome.{past, asked, Outcome, outcome, added, made}
 use Rattle.build.proofs.Grow.{Whole, Grown, whole-grown, more-nodes, more-bytes}
-
--- ---- room
-
--- from what stands to what will stand, below the limit and in what is lent
-pub record Fits (before after limit lent : ℕ) : Type 0 where
-  pub grows : before ≤ after
-  pub limited : before < after → after ≤ limit
-  pub inside : before < after → after ≤ lent
-
-pub fits-of : (before after limit lent : ℕ) → before ≤ after → fits before after limit lent ≡ true → Fits before after limit lent
-fits-of before after limit lent g e = go (eqb before after) refl e
-  where
-    both : (q : Bool) → leb after limit ≡ q → q && leb after lent ≡ true → (after ≤ limit) × (after ≤ lent)
-    both true p e = (leb-true after limit p, leb-true after lent e)
-    both false p e = let z : true ≡ false = sym e in absurd (true≢false z)
-
-    go : (q : Bool) → eqb before after ≡ q → q || (leb after limit && leb after lent) ≡ true → Fits before after limit lent
-    go true p e = let z : before ≡ after = eqb-true before after p in record { grows = g; limited = λ l. absurd (omega arith); inside = λ l. absurd (omega arith) }
-    go false p e = let b = both (leb after limit) refl e in record { grows = g; limited = λ l. b .0; inside = λ l. b .1 }
-
-pub of-fits : {before after limit lent : ℕ} → Fits before after limit lent → fits before after limit lent ≡ true
-of-fits {before} {after} {limit} {lent} f = go (decLt before after)
-  where
-    go : Dec (before < after) → fits before after limit lent ≡ true
-    go (yes l) = rw (ne-eqb before after (λ e. omega arith), le-leb after limit (f .limited l), le-leb after lent (f .inside l))
-    go (no l) = let g = f .grows in rw (eq-eqb before after (omega arith))
-
--- a stretch of what fits
-pub stretch : {before after limit lent : ℕ} (from to : ℕ) → Fits before after limit lent → before ≤ from → from ≤ to → to ≤ after → Fits from to limit lent
-stretch {before} {after} from to f a b c =
-    record { grows = b; limited = λ l. let h = f .limited (omega arith) in omega arith; inside = λ l. let h = f .inside (omega arith) in omega arith }
-
--- what fits is inside
-pub fits-inside : {before after limit lent : ℕ} → Fits before after limit lent → before ≤ lent → after ≤ lent
-fits-inside {before} {after} {limit} {lent} f h = go (decLt before after)
-  where
-    go : Dec (before < after) → after ≤ lent
-    go (yes l) = f .inside l
-    go (no l) = omega arith
-
--- from counts to counts, in a table and a text of these lengths
-pub record Room (words bytes : ℕ) (c d : Counts) : Type 0 where
-  pub nodes : Fits (c .nodes) (d .nodes) 1024 (words / 4)
-  pub used : Fits (c .bytes) (d .bytes) 65536 bytes
-
--- what is known where the whole was granted
-pub record Allowed (c d : Counts) (words bytes : ℕ) (present amount text : Bool) : Type 0 where
-  pub counted-nodes : c .nodes ≤ words / 4
-  pub counted-bytes : c .bytes ≤ bytes
-  pub operands : present ≡ true
-  pub amounts : amount ≡ true
-  pub texts : text ≡ true
-  pub room : Room words bytes c d
-
-goes-on : (q : Bool) (w : Why) (x : Asked) → pick q (Denied w) x ≡ Granted → (q ≡ false) × (x ≡ Granted)
-goes-on true w x e = let z : _≡_ {A = ℕ} 0 1 = cc in absurd (omega arith)
-goes-on false w x e = (refl, e)
-
-neither : (p q : Bool) → p || q ≡ false → (p ≡ false) × (q ≡ false)
-neither true q e = absurd (true≢false e)
-neither false q e = (refl, e)
-
-pub allowed : (c d : Counts) (words bytes : ℕ) (present amount text : Bool) → c .nodes ≤ d .nodes → c .bytes ≤ d .bytes → asked c words bytes present amount text (d .nodes) (d .bytes) ≡ Granted → Allowed c d words bytes present amount text
-unfolding asked
-allowed c d words bytes present amount text gn gb e =
-    let a = goes-on _ _ _ e in
-    let b = goes-on _ _ _ (a .1) in
-    let p = goes-on _ _ _ (b .1) in
-    let q = goes-on _ _ _ (p .1) in
-    let r = goes-on _ _ _ (q .1) in
-    let s = goes-on _ _ _ (r .1) in
-    let n = neither _ _ (a .0) in
-    record {
-      counted-nodes = ltb-false (words / 4) (c .nodes) (n .0);
-      counted-bytes = ltb-false bytes (c .bytes) (n .1);
-      operands = not-false _ (b .0);
-      amounts = not-false _ (p .0);
-      texts = not-false _ (q .0);
-      room = record { nodes = fits-of _ _ _ _ gn (not-false _ (s .0)); used = fits-of _ _ _ _ gb (not-false _ (r .0)) };
-    }
-
-pub granted : {c d : Counts} {words bytes : ℕ} {present amount text : Bool} → Allowed c d words bytes present amount text → asked c words bytes present amount text (d .nodes) (d .bytes) ≡ Granted
-unfolding asked
-granted {c} {d} {words} {bytes} {present} {amount} {text} h =
-    rw (le-ltb (words / 4) (c .nodes) (h .counted-nodes), le-ltb bytes (c .bytes) (h .counted-bytes), h .operands, h .amounts, h .texts)
-    (rw (of-fits (h .room .used)) (rw (of-fits (h .room .nodes)) refl))
-
--- ---- from part to part
+use Rattle.build.proofs.Room.{neither, stretch, fits-inside, Room, Allowed, allowed, granted}
 
 -- counts c over table and text, where sheet s was built over a first table and a first text
 pub record Stands (table₀ text₀ : List ℕ) (s : Sheet) (c : Counts) (table text : List ℕ) : Type 0 where
@@ -187,6 +96,23 @@ module _ (c : Counts) (table text : List ℕ) (present amount right : Bool) (f :
   unfolding made
   made-same g e = rw e refl
 
+  -- counts that are right where nothing comes before them
+  module _ (nodes used : ℕ) (right-counts : c .nodes ≤ length table / 4 → c .bytes ≤ length text → present ≡ true → (f (counted c table text) .sheet .counts .nodes ≡ nodes) × (f (counted c table text) .sheet .counts .bytes ≡ used)) where
+    pub asked-same : asked-of (f (counted c table text) .sheet .counts .nodes) (f (counted c table text) .sheet .counts .bytes) ≡ asked-of nodes used
+    unfolding asked
+    asked-same = over-past (past c (length table) (length text)) refl
+      where
+        over-operand : (q : Bool) → present ≡ q → past c (length table) (length text) ≡ false → asked-of (f (counted c table text) .sheet .counts .nodes) (f (counted c table text) .sheet .counts .bytes) ≡ asked-of nodes used
+        over-operand true q e =
+            let i = neither _ _ e in
+            let r = right-counts (ltb-false (length table / 4) (c .nodes) (i .0)) (ltb-false (length text) (c .bytes) (i .1)) q in
+            rw (r .0, r .1) refl
+        over-operand false q e = rw (e, q) refl
+
+        over-past : (q : Bool) → past c (length table) (length text) ≡ q → asked-of (f (counted c table text) .sheet .counts .nodes) (f (counted c table text) .sheet .counts .bytes) ≡ asked-of nodes used
+        over-past true e = rw e refl
+        over-past false e = over-operand present refl e
+
 -- one part more
 pub part : {table₀ text₀ : List ℕ} {s : Sheet} {c : Counts} {table text : List ℕ} → Stands table₀ text₀ s c table text → (f : Sheet → Built) → Grown s (f s .sheet) → Room (length table₀) (length text₀) (s .counts) (f s .sheet .counts)
     → (present amount right : Bool) → present ≡ true → amount ≡ true → right ≡ true → {m : Made} {table′ text′ : List ℕ} → outcome m table′ text′ ≡ made c table text present amount right f → Went table₀ text₀ (f s) m table′ text′
@@ -228,3 +154,38 @@ never w e = let z : _≡_ {A = ℕ} 0 1 = cc (w .answer) in omega arith
 pub done : {table₀ text₀ : List ℕ} {b : Built} {m : Made} {table text : List ℕ} → Went table₀ text₀ b m table text → outcome m table text ≡ added b table₀ text₀
 unfolding added
 done w = λ i. outcome (w .answer i) (w .stands .words i) (w .stands .bytes i)
+
+-- ---- the whole
+
+-- a stretch of the whole has room
+pub between : {words bytes : ℕ} {s t u v : Sheet} → Room words bytes (s .counts) (v .counts) → Grown s t → Grown t u → Grown u v → Room words bytes (t .counts) (u .counts)
+between {t = t} {u = u} r g h k =
+    record {
+      nodes = stretch (t .counts .nodes) (u .counts .nodes) (r .nodes) (more-nodes g) (more-nodes h) (more-nodes k);
+      used = stretch (t .counts .bytes) (u .counts .bytes) (r .used) (more-bytes g) (more-bytes h) (more-bytes k);
+    }
+
+module _ (c : Counts) (table text : List ℕ) (present amount right : Bool) (f : Sheet → Built) (nodes used : ℕ) (right-counts : c .nodes ≤ length table / 4 → c .bytes ≤ length text → present ≡ true → (f (counted c table text) .sheet .counts .nodes ≡ nodes) × (f (counted c table text) .sheet .counts .bytes ≡ used)) where
+  asked-is : asked c (length table) (length text) present amount right (f (counted c table text) .sheet .counts .nodes) (f (counted c table text) .sheet .counts .bytes) ≡ asked c (length table) (length text) present amount right nodes used
+  asked-is = asked-same c table text present amount right f nodes used right-counts
+
+  pub refuse : (why : Why) → asked c (length table) (length text) present amount right nodes used ≡ Denied why → outcome (Refused why) table text ≡ made c table text present amount right f
+  refuse why d = made-denied c table text present amount right f _ _ why refl refl (asked-is ∙ d)
+
+  -- what the parts of a whole that was granted can count on
+  pub record Begun : Type 0 where
+    pub facts : Allowed c (f (counted c table text) .sheet .counts) (length table) (length text) present amount right
+    pub stands : Stands table text (counted c table text) c table text
+    pub whole : made c table text present amount right f ≡ added (f (counted c table text)) table text
+
+  pub begin : Grown (counted c table text) (f (counted c table text) .sheet) → asked c (length table) (length text) present amount right nodes used ≡ Granted → Begun
+  begin g e =
+      let b = f (counted c table text) in
+      let n : c .nodes ≤ b .sheet .counts .nodes = unfold counted in more-nodes g in
+      let u : c .bytes ≤ b .sheet .counts .bytes = unfold counted in more-bytes g in
+      let a = allowed c (b .sheet .counts) (length table) (length text) present amount right n u (asked-is ∙ e) in
+      record {
+        facts = a;
+        stands = start c table text (a .counted-nodes) (a .counted-bytes);
+        whole = made-granted c table text present amount right f b refl (asked-is ∙ e);
+      }
