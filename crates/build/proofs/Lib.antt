@@ -5,3 +5,5 @@ mod Room
 mod Stand
 mod Leaf
 mod Choices
+mod Lines
+mod Texts

@@ -1,7 +1,7 @@
 -- How a constructor that is put together of others goes on from part to part.
 --     Stands     counts, table and text, where a sheet was built over a first table and text
 --     start, part, taken, never, done   before the first part, over one, its answer taken apart, after the last
---     begin      the whole, asked for: all of its room is there
+--     refuse, begin, step, finish       the whole: refused, or granted with all of its room, and its parts one by one
 -- Assumes nothing.
 use Prim.Native.Nat.{ℕ, _+_, _-_, _*_, _/_, _≤_}
 use native.Mathlib.Omega.{arith}
@@ -157,13 +157,11 @@ done w = λ i. outcome (w .answer i) (w .stands .words i) (w .stands .bytes i)
 
 -- ---- the whole
 
--- a stretch of the whole has room
-pub between : {words bytes : ℕ} {s t u v : Sheet} → Room words bytes (s .counts) (v .counts) → Grown s t → Grown t u → Grown u v → Room words bytes (t .counts) (u .counts)
-between {t = t} {u = u} r g h k =
-    record {
-      nodes = stretch (t .counts .nodes) (u .counts .nodes) (r .nodes) (more-nodes g) (more-nodes h) (more-nodes k);
-      used = stretch (t .counts .bytes) (u .counts .bytes) (r .used) (more-bytes g) (more-bytes h) (more-bytes k);
-    }
+-- what the parts of a whole that was granted can count on
+pub record Begun (c : Counts) (table text : List ℕ) (present amount right : Bool) (f : Sheet → Built) : Type 0 where
+  pub facts : Allowed c (f (counted c table text) .sheet .counts) (length table) (length text) present amount right
+  pub stands : Stands table text (counted c table text) c table text
+  pub whole : made c table text present amount right f ≡ added (f (counted c table text)) table text
 
 module _ (c : Counts) (table text : List ℕ) (present amount right : Bool) (f : Sheet → Built) (nodes used : ℕ) (right-counts : c .nodes ≤ length table / 4 → c .bytes ≤ length text → present ≡ true → (f (counted c table text) .sheet .counts .nodes ≡ nodes) × (f (counted c table text) .sheet .counts .bytes ≡ used)) where
   asked-is : asked c (length table) (length text) present amount right (f (counted c table text) .sheet .counts .nodes) (f (counted c table text) .sheet .counts .bytes) ≡ asked c (length table) (length text) present amount right nodes used
@@ -172,13 +170,7 @@ module _ (c : Counts) (table text : List ℕ) (present amount right : Bool) (f :
   pub refuse : (why : Why) → asked c (length table) (length text) present amount right nodes used ≡ Denied why → outcome (Refused why) table text ≡ made c table text present amount right f
   refuse why d = made-denied c table text present amount right f _ _ why refl refl (asked-is ∙ d)
 
-  -- what the parts of a whole that was granted can count on
-  pub record Begun : Type 0 where
-    pub facts : Allowed c (f (counted c table text) .sheet .counts) (length table) (length text) present amount right
-    pub stands : Stands table text (counted c table text) c table text
-    pub whole : made c table text present amount right f ≡ added (f (counted c table text)) table text
-
-  pub begin : Grown (counted c table text) (f (counted c table text) .sheet) → asked c (length table) (length text) present amount right nodes used ≡ Granted → Begun
+  pub begin : Grown (counted c table text) (f (counted c table text) .sheet) → asked c (length table) (length text) present amount right nodes used ≡ Granted → Begun c table text present amount right f
   begin g e =
       let b = f (counted c table text) in
       let n : c .nodes ≤ b .sheet .counts .nodes = unfold counted in more-nodes g in
@@ -189,3 +181,22 @@ module _ (c : Counts) (table text : List ℕ) (present amount right : Bool) (f :
         stands = start c table text (a .counted-nodes) (a .counted-bytes);
         whole = made-granted c table text present amount right f b refl (asked-is ∙ e);
       }
+
+module _ {c₀ : Counts} {table₀ text₀ : List ℕ} {present₀ amount₀ right₀ : Bool} {whole : Sheet → Built} (begun : Begun c₀ table₀ text₀ present₀ amount₀ right₀ whole) where
+  -- a part of the whole: the sheet before it grew from the first, and the whole grows from it
+  pub step : {s : Sheet} {c : Counts} {table text : List ℕ} → Stands table₀ text₀ s c table text → (f : Sheet → Built) → Grown (counted c₀ table₀ text₀) s → Grown s (f s .sheet) → Grown (f s .sheet) (whole (counted c₀ table₀ text₀) .sheet)
+      → {present amount right : Bool} → present ≡ true → amount ≡ true → right ≡ true → {m : Made} {table′ text′ : List ℕ} → outcome m table′ text′ ≡ made c table text present amount right f → Went table₀ text₀ (f s) m table′ text′
+  unfolding counted
+  step {s} h f before here after {present} {amount} {right} p a t e =
+      let r = begun .facts .room in
+      let t′ = f s .sheet in
+      let room : Room (length table₀) (length text₀) (s .counts) (t′ .counts) =
+      record {
+        nodes = stretch (s .counts .nodes) (t′ .counts .nodes) (r .nodes) (more-nodes before) (more-nodes here) (more-nodes after);
+        used = stretch (s .counts .bytes) (t′ .counts .bytes) (r .used) (more-bytes before) (more-bytes here) (more-bytes after);
+      } in
+      part h f here room present amount right p a t e
+
+  -- the last part gives the whole
+  pub finish : {m : Made} {table text : List ℕ} → Went table₀ text₀ (whole (counted c₀ table₀ text₀)) m table text → outcome m table text ≡ made c₀ table₀ text₀ present₀ amount₀ right₀ whole
+  finish w = done w ∙ sym (begun .whole)

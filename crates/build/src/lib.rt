@@ -10,10 +10,11 @@ ghost use lib.Dec.{eqb};
 ghost use Rattle.table.specs.Node.{word};
 ghost use Rattle.build.specs.Sheet.{countsOf, counted, over, older, add};
 ghost use Rattle.table.specs.Utf8.{ascii};
+ghost use Rattle.table.specs.Fault.{columnsRight};
 ghost use Rattle.build.specs.Parts.{stays};
 ghost use Rattle.build.specs.Solid.{solid};
 ghost use Rattle.build.specs.Outcome.{fits, asked, outcome, made};
-ghost use Rattle.build.specs.Constructors.{has, hasAll, nestRight, nilMade, hardlineMade, failMade, flatAltMade, annotateMade, unionMade, alignMade, appendMade, groupMade, nestMade};
+ghost use Rattle.build.specs.Constructors.{has, hasAll, nestRight, nilMade, hardlineMade, failMade, flatAltMade, annotateMade, unionMade, alignMade, appendMade, groupMade, nestMade, textMade, spaceMade, lineMade, line₀Made};
 use table::Column;
 use table::Indent;
 use table::NodeNo;
@@ -67,6 +68,26 @@ fn fits(before: u32, more: usize, limit: u32, lent: usize) -> bool
     }
     let after = before as usize + more;
     after <= limit && after <= lent
+}
+
+// What a constructor asks for that has no operands and nothing to be out of range.
+fn adds(nodes: usize, bytes: usize) -> Asks
+    ensures { λ r. ⌜ r ≡ record { present = true; amount = true; text = true; nodes = nodes; bytes = bytes } ⌝ }
+{
+    Asks {
+        present: true,
+        amount: true,
+        text: true,
+        nodes: nodes,
+        bytes: bytes,
+    }
+}
+
+// STAND-IN
+fn columns_right(bytes: &[u8], c: u32) -> bool
+    ensures { λ r. ⌜ r ≡ columnsRight (now (bytes .entry)) c ⌝ }
+{
+    true
 }
 
 // Amount 0 to 1,000; 0 adds, 1 subtracts.
@@ -368,5 +389,82 @@ impl Counts {
             return self.older(table, text, present, right, n);
         }
         self.node(table, text, present, right, 4, n.0, amount.0, way)
+    }
+
+    // Empty bytes make a Nil.
+    pub fn text(self, table: &mut [u32], text: &mut [u8], bytes: &[u8], columns: Column) -> Made
+        ensures { λ r. ⌜ outcome r (now (table .exit)) (now (text .exit)) ≡ textMade self (now (table .entry)) (now (text .entry)) (now (bytes .entry)) (columns .0) ⌝ }
+    {
+        let size = bytes.len();
+        let right = columns_right(bytes, columns.0);
+        let asked = self.ask(
+            table.len(),
+            text.len(),
+            Asks {
+                present: true,
+                amount: true,
+                text: right,
+                nodes: 1,
+                bytes: size,
+            },
+        );
+        if let Asked::Denied(why) = asked {
+            return Made::Refused(why);
+        }
+        if size == 0 {
+            return self.add(table, 0, 0, 0, 0);
+        }
+        let at = self.bytes;
+        buffer::copy_bytes(bytes, 0, size, text, at as usize);
+        let longer = Counts {
+            nodes: self.nodes,
+            bytes: at + size as u32,
+        };
+        longer.add(table, 6, at, size as u32, columns.0)
+    }
+
+    // ---- composed: all of it is asked for first, so that no part of it refuses
+
+    pub fn space(self, table: &mut [u32], text: &mut [u8]) -> Made
+        ensures { λ r. ⌜ outcome r (now (table .exit)) (now (text .exit)) ≡ spaceMade self (now (table .entry)) (now (text .entry)) ⌝ }
+    {
+        self.text(table, text, b" ", Column(1))
+    }
+
+    // Three nodes and one byte.
+    pub fn line(self, table: &mut [u32], text: &mut [u8]) -> Made
+        ensures { λ r. ⌜ outcome r (now (table .exit)) (now (text .exit)) ≡ lineMade self (now (table .entry)) (now (text .entry)) ⌝ }
+    {
+        let asked = self.ask(table.len(), text.len(), adds(3, 1));
+        if let Asked::Denied(why) = asked {
+            return Made::Refused(why);
+        }
+        let first = self.hardline(table, text);
+        let Made::Node(c, broken) = first else {
+            return first;
+        };
+        let second = c.space(table, text);
+        let Made::Node(c, flat) = second else {
+            return second;
+        };
+        c.flat_alt(table, text, broken, flat)
+    }
+
+    pub fn line_(self, table: &mut [u32], text: &[u8]) -> Made
+        ensures { λ r. ⌜ outcome r (now (table .exit)) (now (text .entry)) ≡ line₀Made self (now (table .entry)) (now (text .entry)) ⌝ }
+    {
+        let asked = self.ask(table.len(), text.len(), adds(3, 0));
+        if let Asked::Denied(why) = asked {
+            return Made::Refused(why);
+        }
+        let first = self.hardline(table, text);
+        let Made::Node(c, broken) = first else {
+            return first;
+        };
+        let second = c.nil(table, text);
+        let Made::Node(c, flat) = second else {
+            return second;
+        };
+        c.flat_alt(table, text, broken, flat)
     }
 }
