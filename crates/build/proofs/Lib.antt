@@ -7,3 +7,9 @@ mod Leaf
 mod Choices
 mod Lines
 mod Texts
+mod Words
+mod Joins
+mod Softlines
+mod Hangs
+mod Concats
+mod Separated

@@ -87,7 +87,7 @@ module _ (c : Counts) (table text : List ℕ) where
   indentMade n by = made c table text (has c n) (leb by 1000) true (λ s. parts.indent s n by)
 
   abbrev pub encloseMade : ℕ → ℕ → ℕ → Outcome
-  encloseMade n before after = made c table text (has c before && has c n && has c after) true true (λ s. parts.enclose s n before after)
+  encloseMade n before after = made c table text (hasAll c (before ∷ n ∷ after ∷ [])) true true (λ s. parts.enclose s n before after)
 
   abbrev pub concatMade : List ℕ → Outcome
   concatMade ns = made c table text (hasAll c ns) true true (λ s. parts.concat s ns)

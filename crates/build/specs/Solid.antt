@@ -1,5 +1,6 @@
--- How many nodes a list of operands comes to when it is joined: each that is no Nil, but one.
-use Prim.Native.Nat.{ℕ, suc, _+_, _-_}
+-- How many nodes a constructor comes to, by the kinds of its operands: what a composed one counts before it adds anything.
+use Prim.Native.Nat.{ℕ, suc}
+use mathlib.Core.Bool.{_||_}
 use mathlib.Core.List.{List, [], _∷_}
 use lib.Dec.{eqb}
 use Rattle.table.specs.Pick.{pick}
@@ -9,3 +10,7 @@ use Rattle.table.specs.Node.{word}
 unfoldable pub solid : List ℕ → List ℕ → ℕ
 solid table [] = 0
 solid table (n ∷ ns) = pick (eqb (word table n 0) 0) (solid table ns) (suc (solid table ns))
+
+-- how many nodes a Nest comes to
+unfoldable pub nestAdds : List ℕ → ℕ → ℕ → ℕ
+nestAdds table n amount = pick (eqb (word table n 0) 0 || eqb amount 0) 0 1

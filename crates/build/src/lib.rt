@@ -4,7 +4,7 @@
 ghost use mathlib.Core.Path.{_≡_};
 ghost use mathlib.Core.Bool.{true, _&&_};
 ghost use mathlib.Core.List.{List, [], _∷_, _++_};
-ghost use Prim.Native.Nat.{ℕ, _+_, _*_, _≤_, _<_};
+ghost use Prim.Native.Nat.{ℕ, _+_, _-_, _*_, _≤_, _<_};
 ghost use lib.ListN.{length, take, drop};
 ghost use lib.Dec.{eqb};
 ghost use Rattle.table.specs.Node.{word};
@@ -12,9 +12,9 @@ ghost use Rattle.build.specs.Sheet.{countsOf, counted, over, older, add}
 ghost use Rattle.table.specs.Utf8.{ascii};
 ghost use Rattle.table.specs.Fault.{columnsRight};
 ghost use Rattle.build.specs.Parts.{stays};
-ghost use Rattle.build.specs.Solid.{solid};
+ghost use Rattle.build.specs.Solid.{solid, nestAdds};
 ghost use Rattle.build.specs.Outcome.{fits, asked, outcome, made};
-ghost use Rattle.build.specs.Constructors.{has, hasAll, nestRight, nilMade, hardlineMade, failMade, flatAltMade, annotateMade, unionMade, alignMade, appendMade, groupMade, nestMade, textMade, spaceMade, lineMade, line₀Made};
+ghost use Rattle.build.specs.Constructors.{has, hasAll, nestRight, nilMade, hardlineMade, failMade, flatAltMade, annotateMade, unionMade, alignMade, appendMade, groupMade, nestMade, textMade, spaceMade, lineMade, line₀Made, softlineMade, softline₀Made, hangMade, concatMade, encloseMade, intersperseMade};
 use table::Column;
 use table::Indent;
 use table::NodeNo;
@@ -88,6 +88,16 @@ fn columns_right(bytes: &[u8], c: u32) -> bool
     ensures { λ r. ⌜ r ≡ columnsRight (now (bytes .entry)) c ⌝ }
 {
     true
+}
+
+// One less, but not less than none.
+fn less_one(n: usize) -> usize
+    ensures { λ r. ⌜ r ≡ n - 1 ⌝ }
+{
+    if n == 0 {
+        return 0;
+    }
+    n - 1
 }
 
 // Amount 0 to 1,000; 0 adds, 1 subtracts.
@@ -188,6 +198,12 @@ impl Counts {
         true
     }
 
+    fn has_with(self, n: NodeNo, ns: &[u32]) -> bool
+        ensures { λ r. ⌜ r ≡ has self (n .0) && hasAll self (now (ns .entry)) ⌝ }
+    {
+        self.has(n) && self.has_all(ns)
+    }
+
     // How many of the nodes are no Nil.
     fn solid(self, table: &[u32], ns: &[u32]) -> usize
         ensures { λ r. ⌜ r ≡ solid (take (self .nodes * 4) (now (table .entry))) (now (ns .entry)) ⌝ }
@@ -201,6 +217,16 @@ impl Counts {
             }
             count += 1;
             i += 1;
+        }
+        count
+    }
+
+    // How many of so many separators are no Nil.
+    fn separators(self, table: &[u32], separator: NodeNo, count: usize) -> usize
+        ensures { λ r. ⌜ r ≡ count * solid (take (self .nodes * 4) (now (table .entry))) (separator .0 ∷ []) ⌝ }
+    {
+        if self.is_nil(table, separator) {
+            return 0;
         }
         count
     }
@@ -466,5 +492,158 @@ impl Counts {
             return second;
         };
         c.flat_alt(table, text, broken, flat)
+    }
+
+    pub fn softline(self, table: &mut [u32], text: &mut [u8]) -> Made
+        ensures { λ r. ⌜ outcome r (now (table .exit)) (now (text .exit)) ≡ softlineMade self (now (table .entry)) (now (text .entry)) ⌝ }
+    {
+        let asked = self.ask(table.len(), text.len(), adds(4, 1));
+        if let Asked::Denied(why) = asked {
+            return Made::Refused(why);
+        }
+        let first = self.line(table, text);
+        let Made::Node(c, n) = first else {
+            return first;
+        };
+        c.group(table, text, n)
+    }
+
+    pub fn softline_(self, table: &mut [u32], text: &[u8]) -> Made
+        ensures { λ r. ⌜ outcome r (now (table .exit)) (now (text .entry)) ≡ softline₀Made self (now (table .entry)) (now (text .entry)) ⌝ }
+    {
+        let asked = self.ask(table.len(), text.len(), adds(4, 0));
+        if let Asked::Denied(why) = asked {
+            return Made::Refused(why);
+        }
+        let first = self.line_(table, text);
+        let Made::Node(c, n) = first else {
+            return first;
+        };
+        c.group(table, text, n)
+    }
+
+    // How many nodes `hang` adds.
+    fn hang_adds(self, table: &[u32], n: NodeNo, amount: Indent) -> usize
+        ensures { λ r. ⌜ r ≡ nestAdds (take (self .nodes * 4) (now (table .entry))) (n .0) (amount .0) + 1 ⌝ }
+    {
+        if self.is_nil(table, n) {
+            return 1;
+        }
+        if amount.0 == 0 {
+            return 1;
+        }
+        2
+    }
+
+    // Nests, then aligns.
+    pub fn hang(self, table: &mut [u32], text: &[u8], n: NodeNo, amount: Indent, way: u32) -> Made
+        ensures { λ r. ⌜ outcome r (now (table .exit)) (now (text .entry)) ≡ hangMade self (now (table .entry)) (now (text .entry)) (n .0) (amount .0) way ⌝ }
+    {
+        let present = self.has(n);
+        let right = nest_right(amount, way);
+        let more = self.hang_adds(table, n, amount);
+        let asked = self.ask(
+            table.len(),
+            text.len(),
+            Asks {
+                present: present,
+                amount: right,
+                text: true,
+                nodes: more,
+                bytes: 0,
+            },
+        );
+        if let Asked::Denied(why) = asked {
+            return Made::Refused(why);
+        }
+        let first = self.nest(table, text, n, amount, way);
+        let Made::Node(c, nested) = first else {
+            return first;
+        };
+        c.align(table, text, nested)
+    }
+
+    // Starts from the first; of none one Nil.
+    pub fn concat(self, table: &mut [u32], text: &[u8], nodes: &[u32]) -> Made
+        ensures { λ r. ⌜ outcome r (now (table .exit)) (now (text .entry)) ≡ concatMade self (now (table .entry)) (now (text .entry)) (now (nodes .entry)) ⌝ }
+    {
+        if nodes.len() == 0 {
+            return self.nil(table, text);
+        }
+        let asked = self.ask_joined(table, text, self.has_all(nodes), self.solid(table, nodes));
+        if let Asked::Denied(why) = asked {
+            return Made::Refused(why);
+        }
+        let mut c = self;
+        let mut n = NodeNo(nodes[0]);
+        let mut i = 1;
+        while i < nodes.len() {
+            let made = c.append(table, text, n, NodeNo(nodes[i]));
+            let Made::Node(next, joined) = made else {
+                return made;
+            };
+            c = next;
+            n = joined;
+            i += 1;
+        }
+        Made::Node(c, n)
+    }
+
+    // What a list is asked for that joins so many nodes.
+    fn ask_joined(self, table: &[u32], text: &[u8], present: bool, solid: usize) -> Asked
+        ensures { λ r. ⌜ r ≡ asked self (length (now (table .entry))) (length (now (text .entry))) present true true (self .nodes + (solid - 1)) (self .bytes + 0) ⌝ }
+    {
+        let nodes = less_one(solid);
+        self.ask(
+            table.len(),
+            text.len(),
+            Asks {
+                present: present,
+                amount: true,
+                text: true,
+                nodes: nodes,
+                bytes: 0,
+            },
+        )
+    }
+
+    // The node between the two others.
+    pub fn enclose(self, table: &mut [u32], text: &[u8], n: NodeNo, before: NodeNo, after: NodeNo) -> Made
+        ensures { λ r. ⌜ outcome r (now (table .exit)) (now (text .entry)) ≡ encloseMade self (now (table .entry)) (now (text .entry)) (n .0) (before .0) (after .0) ⌝ }
+    {
+        let nodes = [before.0, n.0, after.0];
+        self.concat(table, text, &nodes)
+    }
+
+    // The separator between each two.
+    pub fn intersperse(self, table: &mut [u32], text: &[u8], nodes: &[u32], separator: NodeNo) -> Made
+        ensures { λ r. ⌜ outcome r (now (table .exit)) (now (text .entry)) ≡ intersperseMade self (now (table .entry)) (now (text .entry)) (now (nodes .entry)) (separator .0) ⌝ }
+    {
+        let present = self.has_with(separator, nodes);
+        if nodes.len() == 0 {
+            return self.node(table, text, present, true, 0, 0, 0, 0);
+        }
+        let solid = self.solid(table, nodes) + self.separators(table, separator, nodes.len() - 1);
+        let asked = self.ask_joined(table, text, present, solid);
+        if let Asked::Denied(why) = asked {
+            return Made::Refused(why);
+        }
+        let mut c = self;
+        let mut n = NodeNo(nodes[0]);
+        let mut i = 1;
+        while i < nodes.len() {
+            let made = c.append(table, text, n, separator);
+            let Made::Node(next, joined) = made else {
+                return made;
+            };
+            let made = next.append(table, text, joined, NodeNo(nodes[i]));
+            let Made::Node(next, joined) = made else {
+                return made;
+            };
+            c = next;
+            n = joined;
+            i += 1;
+        }
+        Made::Node(c, n)
     }
 }
