@@ -2,6 +2,7 @@
 --     right-of, of-right       a node has no fault, and it is as 01 asks
 --     clean-of, of-clean       the first N nodes have no fault, and each of them has none
 --     first-zero, first-next, first-here   the first fault, node by node
+--     check-sizes, check-nodes 1 comes first, then the nodes
 --     accepted-of, of-accepted `check` answers 0, and the table is accepted
 -- Assumes nothing.
 use Prim.Native.Nat.{ℕ, zero, suc, _+_, _*_, _/_, _%_, _≤_, _<_}
@@ -40,7 +41,7 @@ ascii-well (b ∷ bs) e =
     owed-start b bs [] s ∙ ascii-well bs (p .1)
 
 -- a Text's range has its length
-part-length : (text : List ℕ) (a b : ℕ) → a + b ≤ length text → length (take b (drop a text)) ≡ b
+pub part-length : (text : List ℕ) (a b : ℕ) → a + b ≤ length text → length (take b (drop a text)) ≡ b
 part-length text a b h = simp (length-take, length-drop) (omega arith)
 
 columns-of : (bs : List ℕ) (c b : ℕ) → length bs ≡ b → columnsRight bs c ≡ true → (wellFormed bs ≡ true) × (ascii bs ≡ true → c ≡ b) × (c ≤ b)
@@ -182,10 +183,17 @@ module _ (table text : List ℕ) where
   pub of-clean : (N : ℕ) → ((n : ℕ) → n < N → faultAt table text n ≡ 0) → firstFault table text N ≡ none
   of-clean zero f = first-zero
   of-clean (suc N) f = first-next N (of-clean N (λ n h. f n (omega arith))) (f N (omega arith))
+      -- ---- the whole table
 
-  -- ---- the whole table
+  pub check-sizes : sizesRight (length table) (length text) ≡ false → check table text ≡ fault 1 0
+  unfolding check
+  check-sizes e = rw e
 
-  sizes-of : sizesRight (length table) (length text) ≡ true → (0 < length table) × (length table % 4 ≡ 0) × (length table ≤ 4096) × (length text ≤ 65536)
+  pub check-nodes : sizesRight (length table) (length text) ≡ true → check table text ≡ firstFault table text (length table / 4)
+  unfolding check
+  check-nodes e = rw e
+
+  pub sizes-of : sizesRight (length table) (length text) ≡ true → (0 < length table) × (length table % 4 ≡ 0) × (length table ≤ 4096) × (length text ≤ 65536)
   sizes-of e =
       let w = length table in
       let p = and-true (not (eqb w 0) && eqb (w % 4) 0 && leb w 4096) (leb (length text) 65536) e in
