@@ -7,8 +7,8 @@ ghost use lib.ListN.{length};
 ghost use Rattle.table.specs.Kinds.{kinds, kindAt};
 ghost use Rattle.table.specs.Utf8.{ascii};
 ghost use Rattle.table.specs.Fault.{unusedZero, childrenBelow, nestInRange, faultOf, textFault, firstFault, sizesRight, check};
-
-use utf8::{below_128, columns_right};
+use utf8::below_128;
+use utf8::columns_right;
 
 mod utf8;
 
