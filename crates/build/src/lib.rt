@@ -9,8 +9,6 @@ ghost use lib.ListN.{length, take, drop};
 ghost use lib.Dec.{eqb};
 ghost use Rattle.table.specs.Node.{word};
 ghost use Rattle.build.specs.Sheet.{countsOf, counted, over, older, add};
-ghost use Rattle.table.specs.Utf8.{ascii};
-ghost use Rattle.table.specs.Fault.{columnsRight};
 ghost use Rattle.build.specs.Parts.{stays};
 ghost use Rattle.build.specs.Solid.{solid, nestAdds};
 ghost use Rattle.build.specs.Outcome.{fits, asked, outcome, made};
@@ -81,13 +79,6 @@ fn adds(nodes: usize, bytes: usize) -> Asks
         nodes: nodes,
         bytes: bytes,
     }
-}
-
-// STAND-IN
-fn columns_right(bytes: &[u8], c: u32) -> bool
-    ensures { λ r. ⌜ r ≡ columnsRight (now (bytes .entry)) c ⌝ }
-{
-    true
 }
 
 // One less, but not less than none.
@@ -231,21 +222,6 @@ impl Counts {
         count
     }
 
-    // Whether all bytes of a part of the text are below 128.
-    fn plain(text: &[u8], from: usize, size: usize) -> bool
-        requires { ⌜ from + size ≤ length (now text) ⌝ }
-        ensures { λ r. ⌜ r ≡ ascii (take size (drop from (now (text .entry)))) ⌝ }
-    {
-        let mut i = 0;
-        while i < size {
-            if text[from + i] >= 128 {
-                return false;
-            }
-            i += 1;
-        }
-        true
-    }
-
     // Whether Group gives the node back.
     fn stays(self, table: &[u32], text: &[u8], n: NodeNo) -> bool
         ensures { λ r. ⌜ r ≡ stays (counted self (now (table .entry)) (now (text .entry))) (n .0) ⌝ }
@@ -262,13 +238,14 @@ impl Counts {
         }
         let from = self.word(table, n, 1) as usize;
         let size = self.word(table, n, 2) as usize;
-        if (self.bytes as usize) < from + size {
+        let end = from + size;
+        if (self.bytes as usize) < end {
             return false;
         }
-        if text.len() < from + size {
+        if text.len() < end {
             return false;
         }
-        Counts::plain(text, from, size)
+        below_128(&text[from..end])
     }
 
     // ---- one node

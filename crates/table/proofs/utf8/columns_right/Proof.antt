@@ -1,4 +1,4 @@
--- `table::columns_right` meets its contract: by what its two tests say of the bytes. Assumes nothing.
+-- `table::utf8::columns_right` meets its contract: by what its two tests say of the bytes. Assumes nothing.
 use borrow.Author.Needs.{needs}
 use mathlib.Core.Path.{_≡_, sym, ap, _∙_}
 use mathlib.Core.Bool.{Bool, true, false, _&&_}
@@ -6,8 +6,8 @@ use lib.ListN.{length}
 use lib.Dec.{leb}
 use Rattle.table.specs.Utf8.{wellFormed}
 use Rattle.table.proofs.Answers.{columns-plain, columns-wide}
-use Rattle.table.proofs.columns_right.Statement.{statement}
-use Rattle.table.proofs.columns_right.Tie as tie
+use Rattle.table.proofs.utf8.columns_right.Statement.{statement}
+use Rattle.table.proofs.utf8.columns_right.Tie as tie
 
 below-128-requires : tie.Need-below-128-requires
 below-128-requires c κs = search needs

@@ -1,4 +1,4 @@
--- `table::octet` meets its contract: a first octet, one outside what is owed, or one in it. Assumes nothing.
+-- `table::utf8::octet` meets its contract: a first octet, one outside what is owed, or one in it. Assumes nothing.
 use borrow.Author.Needs.{needs}
 use native.Mathlib.Omega.{arith}
 use mathlib.Core.Path.{_≡_}
@@ -6,8 +6,8 @@ use mathlib.Core.Bool.{true, false}
 use borrow.Author.Tests.{le-leb, lt-leb}
 use Rattle.table.specs.Utf8.{to, within}
 use Rattle.table.proofs.Octets.{owed-first, owed-outside, owed-next}
-use Rattle.table.proofs.octet.Statement.{statement}
-use Rattle.table.proofs.octet.Tie as tie
+use Rattle.table.proofs.utf8.octet.Statement.{statement}
+use Rattle.table.proofs.utf8.octet.Tie as tie
 
 start-of-requires : tie.Need-start-of-requires
 start-of-requires c κs = search needs
