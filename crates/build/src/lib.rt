@@ -13,6 +13,8 @@ ghost use Rattle.build.specs.Parts.{stays};
 ghost use Rattle.build.specs.Solid.{solid, nestAdds};
 ghost use Rattle.build.specs.Outcome.{fits, asked, outcome, made};
 ghost use Rattle.build.specs.Constructors.{has, hasAll, nestRight, nilMade, hardlineMade, failMade, flatAltMade, annotateMade, unionMade, alignMade, appendMade, groupMade, nestMade, textMade, spaceMade, lineMade, line₀Made, softlineMade, softline₀Made, hangMade, concatMade, encloseMade, intersperseMade};
+use table::utf8::below_128;
+use table::utf8::columns_right;
 use table::Column;
 use table::Indent;
 use table::NodeNo;

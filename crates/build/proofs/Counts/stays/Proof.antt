@@ -41,11 +41,11 @@ word-requires-3 c κs = search needs
 cast-size : tie.Need-cast-size
 cast-size c = search needs
 
+add-end : tie.Need-add-end
+add-end c = search needs
+
 cast-if4 : tie.Need-cast-if4
 cast-if4 c = search needs
-
-add-if4 : tie.Need-add-if4
-add-if4 c = search needs
 
 returns-4 : tie.Need-returns-4
 unfolding stays counted
@@ -57,9 +57,6 @@ returns-4 c =
     let out : length used < o + l = simp length-take (omega (arith, c .before .before .before .word2 .ensures, c .before .before .word3 .ensures, c .if4 .taken)) in
     simp (ne-eqb _ _ (λ e. c .before .before .before .before .before .before .if1 .left (c .before .before .before .before .before .before .before .word .ensures ∙ e)), ne-eqb _ _ (λ e. c .before .before .before .before .before .if2 .left (c .before .before .before .before .before .before .before .word .ensures ∙ e)), eq-eqb _ _ (sym (c .before .before .before .before .before .before .before .word .ensures) ∙ c .before .before .before .before .if3 .left), lt-leb (o + l) (length used) out)
 
-add-if5 : tie.Need-add-if5
-add-if5 c = search needs
-
 returns-5 : tie.Need-returns-5
 unfolding stays counted
 returns-5 c =
@@ -70,21 +67,31 @@ returns-5 c =
     let out : length used < o + l = simp length-take (omega (arith, c .before .before .before .before .word2 .ensures, c .before .before .before .word3 .ensures, c .if5 .taken)) in
     simp (ne-eqb _ _ (λ e. c .before .before .before .before .before .before .before .if1 .left (c .before .before .before .before .before .before .before .before .word .ensures ∙ e)), ne-eqb _ _ (λ e. c .before .before .before .before .before .before .if2 .left (c .before .before .before .before .before .before .before .before .word .ensures ∙ e)), eq-eqb _ _ (sym (c .before .before .before .before .before .before .before .before .word .ensures) ∙ c .before .before .before .before .before .if3 .left), lt-leb (o + l) (length used) out)
 
-plain-requires : tie.Need-plain-requires
-plain-requires c κs = search needs
+sub-below-128 : tie.Need-sub-below-128
+sub-below-128 c = search needs
+
+part-below-128-start : tie.Need-part-below-128-start
+part-below-128-start c = search needs
+
+part-below-128-end : tie.Need-part-below-128-end
+part-below-128-end c = search needs
+
+below-128-requires : tie.Need-below-128-requires
+below-128-requires c κs = search needs
 
 returns-6 : tie.Need-returns-6
 unfolding stays counted
 returns-6 c =
-    let table = take (c .before .before .before .before .before .before .before .before .before .before .before .before .args .self .nodes * 4) (c .before .before .before .before .before .before .before .before .before .before .before .before .args .table .now) in
-    let o = word table (c .before .before .before .before .before .before .before .before .before .before .before .before .args .n .0) 1 in
-    let l = word table (c .before .before .before .before .before .before .before .before .before .before .before .before .args .n .0) 2 in
-    let used = take (c .before .before .before .before .before .before .before .before .before .before .before .before .args .self .bytes) (c .before .before .before .before .before .before .before .before .before .before .before .before .args .text .now) in
-    let within : o + l ≤ c .before .before .before .before .before .before .before .before .before .before .before .before .args .self .bytes = omega (arith, c .before .before .before .before .before .word2 .ensures, c .before .before .before .before .word3 .ensures, c .before .before .if4 .left) in
-    let inside : o + l ≤ length used = simp length-take (omega (arith, c .before .before .before .before .before .word2 .ensures, c .before .before .before .before .word3 .ensures, c .before .if5 .left)) in
-    let same : take l (drop o used) ≡ take l (drop o (c .before .before .before .before .before .before .before .before .before .before .before .before .args .text .now)) = part-same (c .before .before .before .before .before .before .before .before .before .before .before .before .args .self .bytes) o l used (c .before .before .before .before .before .before .before .before .before .before .before .before .args .text .now) (take-take (c .before .before .before .before .before .before .before .before .before .before .before .before .args .self .bytes) (c .before .before .before .before .before .before .before .before .before .before .before .before .args .self .bytes) (c .before .before .before .before .before .before .before .before .before .before .before .before .args .text .now) (omega arith)) within in
-    let read : take (c .before .before .before .before .word3 .result) (drop (c .before .before .before .before .before .word2 .result) (c .before .before .before .before .before .before .before .before .before .before .before .before .args .text .now)) ≡ take l (drop o used) = rw (c .before .before .before .before .before .word2 .ensures, c .before .before .before .before .word3 .ensures) (sym same) in
-    simp (ne-eqb _ _ (λ e. c .before .before .before .before .before .before .before .before .if1 .left (c .before .before .before .before .before .before .before .before .before .word .ensures ∙ e)), ne-eqb _ _ (λ e. c .before .before .before .before .before .before .before .if2 .left (c .before .before .before .before .before .before .before .before .before .word .ensures ∙ e)), eq-eqb _ _ (sym (c .before .before .before .before .before .before .before .before .before .word .ensures) ∙ c .before .before .before .before .before .before .if3 .left), le-leb (o + l) (length used) inside) (c .plain .ensures ∙ ap ascii read)
+    let table = take (c .before .before .before .before .before .before .before .before .before .before .before .before .before .args .self .nodes * 4) (c .before .before .before .before .before .before .before .before .before .before .before .before .before .args .table .now) in
+    let o = word table (c .before .before .before .before .before .before .before .before .before .before .before .before .before .args .n .0) 1 in
+    let l = word table (c .before .before .before .before .before .before .before .before .before .before .before .before .before .args .n .0) 2 in
+    let used = take (c .before .before .before .before .before .before .before .before .before .before .before .before .before .args .self .bytes) (c .before .before .before .before .before .before .before .before .before .before .before .before .before .args .text .now) in
+    let within : o + l ≤ c .before .before .before .before .before .before .before .before .before .before .before .before .before .args .self .bytes = omega (arith, c .before .before .before .before .before .before .word2 .ensures, c .before .before .before .before .before .word3 .ensures, c .before .before .before .if4 .left) in
+    let inside : o + l ≤ length used = simp length-take (omega (arith, c .before .before .before .before .before .before .word2 .ensures, c .before .before .before .before .before .word3 .ensures, c .before .before .if5 .left)) in
+    let same : take l (drop o used) ≡ take l (drop o (c .before .before .before .before .before .before .before .before .before .before .before .before .before .args .text .now)) = part-same (c .before .before .before .before .before .before .before .before .before .before .before .before .before .args .self .bytes) o l used (c .before .before .before .before .before .before .before .before .before .before .before .before .before .args .text .now) (take-take (c .before .before .before .before .before .before .before .before .before .before .before .before .before .args .self .bytes) (c .before .before .before .before .before .before .before .before .before .before .before .before .before .args .self .bytes) (c .before .before .before .before .before .before .before .before .before .before .before .before .before .args .text .now) (omega arith)) within in
+    let size : c .before .before .before .before .before .before .word2 .result + c .before .before .before .before .before .word3 .result - c .before .before .before .before .before .before .word2 .result ≡ l = omega (arith, c .before .before .before .before .before .word3 .ensures) in
+    let read : take (c .before .before .before .before .before .before .word2 .result + c .before .before .before .before .before .word3 .result - c .before .before .before .before .before .before .word2 .result) (drop (c .before .before .before .before .before .before .word2 .result) (c .before .before .before .before .before .before .before .before .before .before .before .before .before .args .text .now)) ≡ take l (drop o used) = rw (size, c .before .before .before .before .before .before .word2 .ensures) (sym same) in
+    simp (ne-eqb _ _ (λ e. c .before .before .before .before .before .before .before .before .before .if1 .left (c .before .before .before .before .before .before .before .before .before .before .word .ensures ∙ e)), ne-eqb _ _ (λ e. c .before .before .before .before .before .before .before .before .if2 .left (c .before .before .before .before .before .before .before .before .before .before .word .ensures ∙ e)), eq-eqb _ _ (sym (c .before .before .before .before .before .before .before .before .before .before .word .ensures) ∙ c .before .before .before .before .before .before .before .if3 .left), le-leb (o + l) (length used) inside) (c .below-128 .ensures ∙ ap ascii read)
 
 pub stays-spec : {M : Type 1} → statement M
 stays-spec =
@@ -98,10 +105,12 @@ stays-spec =
     cast-from
     word-requires-3
     cast-size
+    add-end
     cast-if4
-    add-if4
     returns-4
-    add-if5
     returns-5
-    plain-requires
+    sub-below-128
+    part-below-128-start
+    part-below-128-end
+    below-128-requires
     returns-6)
