@@ -31,6 +31,13 @@ nest-counts s n amount way = go (isNil s n || eqb amount 0)
     go true = ap (λ (x : ℕ). countsOf x (s .counts .bytes)) (sym (add-zero (s .counts .nodes)))
     go false = refl
 
+pub hang-counts : (s : Sheet) (n amount way : ℕ) → hang s n amount way .sheet .counts ≡ countsOf (s .counts .nodes + (nestAdds (s .table) n amount + 1)) (s .counts .bytes)
+unfolding hang
+hang-counts s n amount way =
+    let e = nest-counts s n amount way in
+    let h : nest s n amount way .sheet .counts .nodes + 1 ≡ s .counts .nodes + (nestAdds (s .table) n amount + 1) = omega (arith, ap (λ (x : Counts). x .nodes) e) in
+    λ i. countsOf (h i) (e i .bytes)
+
 pub nest-present : (s : Sheet) (n amount way : ℕ) → n < s .counts .nodes → nest s n amount way .node < nest s n amount way .sheet .counts .nodes
 unfolding nest
 nest-present s n amount way h = go (isNil s n || eqb amount 0)
@@ -47,10 +54,10 @@ module _ (c : Counts) (table text : List ℕ) (n amount way : ℕ) where
   more = nestAdds (s₀ .table) n amount
 
   right-counts : c .nodes ≤ length table / 4 → c .bytes ≤ length text → has c n ≡ true → (hang s₀ n amount way .sheet .counts .nodes ≡ c .nodes + (more + 1)) × (hang s₀ n amount way .sheet .counts .bytes ≡ c .bytes + 0)
-  unfolding hang counted
+  unfolding counted
   right-counts h b p =
-      let e = nest-counts s₀ n amount way in
-      (omega (arith, ap (λ (x : Counts). x .nodes) e), omega (arith, ap (λ (x : Counts). x .bytes) e))
+      let e = hang-counts s₀ n amount way in
+      (ap (λ (x : Counts). x .nodes) e, ap (λ (x : Counts). x .bytes) e ∙ sym (add-zero (c .bytes)))
 
   pub hang-refused : (why : Why) → asked c (length table) (length text) (has c n) (nestRight amount way) true (c .nodes + (more + 1)) (c .bytes + 0) ≡ Denied why → outcome (Refused why) table text ≡ hangMade c table text n amount way
   hang-refused why d = refuse c table text (has c n) (nestRight amount way) true (λ s. hang s n amount way) _ _ right-counts why d

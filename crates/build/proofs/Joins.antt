@@ -78,9 +78,9 @@ joined-counts s n (m ∷ ns) w h b =
     by ih false false p₁ q₁ =
         over-next (add s 1 n m 0) (append-both s n m p₁ q₁) ih
         (λ i.
-            let j = rw (new-word w (1 ∷ n ∷ m ∷ 0 ∷ []) 0) at i in
-            let e = solid-grown w (add-grown s 1 n m 0) ns (b .1) in
-            rw (p₁, q₁) (omega arith, j .1))
+        let j = rw (new-word w (1 ∷ n ∷ m ∷ 0 ∷ []) 0) at i in
+        let e = solid-grown w (add-grown s 1 n m 0) ns (b .1) in
+        rw (p₁, q₁) (omega arith, j .1))
 
 -- ---- the loop
 

@@ -13,3 +13,4 @@ mod Softlines
 mod Hangs
 mod Concats
 mod Separated
+mod Indents

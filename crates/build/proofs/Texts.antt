@@ -30,6 +30,14 @@ text-counts s bytes columns = go (eqb (length bytes) 0) refl
     go true e = let z = eqb-true (length bytes) 0 e in ap (countsOf (s .counts .nodes + 1)) (omega arith)
     go false e = refl
 
+pub text-present : (s : Sheet) (bytes : List ℕ) (columns : ℕ) → text s bytes columns .node < text s bytes columns .sheet .counts .nodes
+unfolding text
+text-present s bytes columns = go (eqb (length bytes) 0)
+  where
+    go : (q : Bool) → pick q (nil s) (add (write s bytes) 6 (s .counts .bytes) (length bytes) columns) .node < pick q (nil s) (add (write s bytes) 6 (s .counts .bytes) (length bytes) columns) .sheet .counts .nodes
+    go true = omega arith
+    go false = omega arith
+
 module _ (c : Counts) (table letters bytes : List ℕ) (columns : ℕ) (right : Bool) where
   abbrev s₀ : Sheet
   s₀ = counted c table letters

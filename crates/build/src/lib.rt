@@ -10,14 +10,14 @@ ghost use lib.Dec.{eqb};
 ghost use Rattle.table.specs.Node.{word};
 ghost use Rattle.build.specs.Sheet.{countsOf, counted, over, older, add};
 ghost use Rattle.build.specs.Parts.{stays};
-ghost use Rattle.build.specs.Solid.{solid, nestAdds};
+ghost use Rattle.build.specs.Solid.{solid, nestAdds, indentAdds};
 ghost use Rattle.build.specs.Outcome.{fits, asked, outcome, made};
-ghost use Rattle.build.specs.Constructors.{has, hasAll, nestRight, nilMade, hardlineMade, failMade, flatAltMade, annotateMade, unionMade, alignMade, appendMade, groupMade, nestMade, textMade, spaceMade, lineMade, line₀Made, softlineMade, softline₀Made, hangMade, concatMade, encloseMade, intersperseMade};
-use table::utf8::below_128;
-use table::utf8::columns_right;
+ghost use Rattle.build.specs.Constructors.{has, hasAll, nestRight, nilMade, hardlineMade, failMade, flatAltMade, annotateMade, unionMade, alignMade, appendMade, groupMade, nestMade, textMade, spaceMade, lineMade, line₀Made, softlineMade, softline₀Made, hangMade, indentMade, concatMade, encloseMade, intersperseMade};
 use table::Column;
 use table::Indent;
 use table::NodeNo;
+use table::utf8::below_128;
+use table::utf8::columns_right;
 
 // How many nodes and text bytes are in use.
 pub struct Counts {
@@ -269,7 +269,17 @@ impl Counts {
     }
 
     // A node of these words, if its operands are present and its amount is right.
-    fn node(self, table: &mut [u32], text: &[u8], present: bool, amount: bool, k: u32, a: u32, b: u32, c: u32) -> Made
+    fn node(
+        self,
+        table: &mut [u32],
+        text: &[u8],
+        present: bool,
+        amount: bool,
+        k: u32,
+        a: u32,
+        b: u32,
+        c: u32,
+    ) -> Made
         ensures { λ r. ⌜ outcome r (now (table .exit)) (now (text .entry)) ≡ made self (now (table .entry)) (now (text .entry)) present amount true (λ s. add s k a b c) ⌝ }
     {
         let asked = self.ask(
@@ -542,6 +552,52 @@ impl Counts {
         c.align(table, text, nested)
     }
 
+    // How many nodes `indent` adds.
+    fn indent_adds(self, table: &[u32], n: NodeNo, by: Indent) -> usize
+        ensures { λ r. ⌜ r ≡ indentAdds (take (self .nodes * 4) (now (table .entry))) (n .0) (by .0) ⌝ }
+    {
+        if by.0 == 0 {
+            return 2;
+        }
+        if self.is_nil(table, n) {
+            return 3;
+        }
+        4
+    }
+
+    // One Text of blanks before the node, then hangs by as much.
+    pub fn indent(self, table: &mut [u32], text: &mut [u8], n: NodeNo, by: Indent) -> Made
+        ensures { λ r. ⌜ outcome r (now (table .exit)) (now (text .exit)) ≡ indentMade self (now (table .entry)) (now (text .entry)) (n .0) (by .0) ⌝ }
+    {
+        let size = by.0 as usize;
+        let present = self.has(n);
+        let more = self.indent_adds(table, n, by);
+        let asked = self.ask(
+            table.len(),
+            text.len(),
+            Asks {
+                present: present,
+                amount: size <= 1000,
+                text: true,
+                nodes: more,
+                bytes: size,
+            },
+        );
+        if let Asked::Denied(why) = asked {
+            return Made::Refused(why);
+        }
+        let blanks = [32u8; 1000];
+        let first = self.text(table, text, &blanks[..size], Column(by.0));
+        let Made::Node(c, blank) = first else {
+            return first;
+        };
+        let second = c.append(table, text, blank, n);
+        let Made::Node(c, joined) = second else {
+            return second;
+        };
+        c.hang(table, text, joined, by, 0)
+    }
+
     // Starts from the first; of none one Nil.
     pub fn concat(self, table: &mut [u32], text: &[u8], nodes: &[u32]) -> Made
         ensures { λ r. ⌜ outcome r (now (table .exit)) (now (text .entry)) ≡ concatMade self (now (table .entry)) (now (text .entry)) (now (nodes .entry)) ⌝ }
@@ -587,7 +643,14 @@ impl Counts {
     }
 
     // The node between the two others.
-    pub fn enclose(self, table: &mut [u32], text: &[u8], n: NodeNo, before: NodeNo, after: NodeNo) -> Made
+    pub fn enclose(
+        self,
+        table: &mut [u32],
+        text: &[u8],
+        n: NodeNo,
+        before: NodeNo,
+        after: NodeNo,
+    ) -> Made
         ensures { λ r. ⌜ outcome r (now (table .exit)) (now (text .entry)) ≡ encloseMade self (now (table .entry)) (now (text .entry)) (n .0) (before .0) (after .0) ⌝ }
     {
         let nodes = [before.0, n.0, after.0];
@@ -595,7 +658,13 @@ impl Counts {
     }
 
     // The separator between each two.
-    pub fn intersperse(self, table: &mut [u32], text: &[u8], nodes: &[u32], separator: NodeNo) -> Made
+    pub fn intersperse(
+        self,
+        table: &mut [u32],
+        text: &[u8],
+        nodes: &[u32],
+        separator: NodeNo,
+    ) -> Made
         ensures { λ r. ⌜ outcome r (now (table .exit)) (now (text .entry)) ≡ intersperseMade self (now (table .entry)) (now (text .entry)) (now (nodes .entry)) (separator .0) ⌝ }
     {
         let present = self.has_with(separator, nodes);

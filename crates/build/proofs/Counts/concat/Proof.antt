@@ -52,7 +52,7 @@ shared-slice-read-t22 : tie.Need-shared-slice-read-t22 Inv-loop μ-loop
 shared-slice-read-t22 c = let n = c .before .before .before .before .before .before .before .if1 .left in omega (arith, n)
 
 loop-holds : tie.Need-loop-holds Inv-loop μ-loop
-loop-holds c = let n = c .before .before .before .before .before .before .before .if1 .left in (omega arith, omega (arith, n), concat-start (c .before .before .before .before .before .before .before .before .before .before .before .args .self) (c .before .before .before .before .before .before .before .before .before .before .before .args .table .now) (c .before .before .before .before .before .before .before .before .before .before .before .args .text .now) (c .before .before .before .before .before .before .before .before .before .before .before .args .nodes .now) (let n = c .before .before .before .before .before .before .before .if1 .left in omega (arith, n)) (sym (rw (c .before .before .before .before .before .has-all .ensures, c .before .before .before .before .solid .ensures) at (c .before .before .before .ask-joined .ensures)) ∙ c .before .enum-told .given .1) )
+loop-holds c = let n = c .before .before .before .before .before .before .before .if1 .left in (omega arith, omega (arith, n), concat-start (c .before .before .before .before .before .before .before .before .before .before .before .args .self) (c .before .before .before .before .before .before .before .before .before .before .before .args .table .now) (c .before .before .before .before .before .before .before .before .before .before .before .args .text .now) (c .before .before .before .before .before .before .before .before .before .before .before .args .nodes .now) (let n = c .before .before .before .before .before .before .before .if1 .left in omega (arith, n)) (sym (rw (c .before .before .before .before .before .has-all .ensures, c .before .before .before .before .solid .ensures) at (c .before .before .before .ask-joined .ensures)) ∙ c .before .enum-told .given .1))
 
 mul-t23 : tie.Need-mul-t23 Inv-loop μ-loop
 mul-t23 c = search needs
@@ -73,7 +73,7 @@ same-length-3 : tie.Need-same-length-3 Inv-loop μ-loop
 same-length-3 c = c .before .before .before .before .append .kept .1 .0 ∙ same-words (c .before .before .before .before .before .before .before .before .loop .inv .2 .stands)
 
 returns-3 : tie.Need-returns-3 Inv-loop μ-loop
-returns-3 c = absurd (never (concat-went (concat-begun (c .before .before .before .before .before .before .before .before .before .before .before .before .before .before .before .before .before .before .before .before .args .self) (c .before .before .before .before .before .before .before .before .before .before .before .before .before .before .before .before .before .before .before .before .args .table .now) (c .before .before .before .before .before .before .before .before .before .before .before .before .before .before .before .before .before .before .before .before .args .text .now) (c .before .before .before .before .before .before .before .before .before .before .before .before .before .before .before .before .before .before .before .before .args .nodes .now) (let n = c .before .before .before .before .before .before .before .before .before .before .before .before .before .before .before .before .if1 .left in omega (arith, n)) (sym (rw (c .before .before .before .before .before .before .before .before .before .before .before .before .before .before .has-all .ensures, c .before .before .before .before .before .before .before .before .before .before .before .before .before .solid .ensures) at (c .before .before .before .before .before .before .before .before .before .before .before .before .ask-joined .ensures)) ∙ c .before .before .before .before .before .before .before .before .before .before .enum-told .given .1) ) (c .before .before .before .before .before .before .before .before .before .before .before .before .before .before .before .before .before .before .before .before .args .nodes .now) (c .before .before .before .before .before .before .before .before .loop .i) (c .before .before .before .before .before .before .before .loop-test .taken) (concat-below (c .before .before .before .before .before .before .before .before .before .before .before .before .before .before .before .before .before .before .before .before .args .self) (c .before .before .before .before .before .before .before .before .before .before .before .before .before .before .before .before .before .before .before .before .args .table .now) (c .before .before .before .before .before .before .before .before .before .before .before .before .before .before .before .before .before .before .before .before .args .text .now) (c .before .before .before .before .before .before .before .before .before .before .before .before .before .before .before .before .before .before .before .before .args .nodes .now) (let n = c .before .before .before .before .before .before .before .before .before .before .before .before .before .before .before .before .if1 .left in omega (arith, n)) (sym (rw (c .before .before .before .before .before .before .before .before .before .before .before .before .before .before .has-all .ensures, c .before .before .before .before .before .before .before .before .before .before .before .before .before .solid .ensures) at (c .before .before .before .before .before .before .before .before .before .before .before .before .ask-joined .ensures)) ∙ c .before .before .before .before .before .before .before .before .before .before .enum-told .given .1) ) (c .before .before .before .before .before .before .before .before .loop .inv .2) (c .before .before .before .before .append .ensures)) (c .enum-told2 .given .1))
+returns-3 c = absurd (never (concat-went (concat-begun (c .before .before .before .before .before .before .before .before .before .before .before .before .before .before .before .before .before .before .before .before .args .self) (c .before .before .before .before .before .before .before .before .before .before .before .before .before .before .before .before .before .before .before .before .args .table .now) (c .before .before .before .before .before .before .before .before .before .before .before .before .before .before .before .before .before .before .before .before .args .text .now) (c .before .before .before .before .before .before .before .before .before .before .before .before .before .before .before .before .before .before .before .before .args .nodes .now) (let n = c .before .before .before .before .before .before .before .before .before .before .before .before .before .before .before .before .if1 .left in omega (arith, n)) (sym (rw (c .before .before .before .before .before .before .before .before .before .before .before .before .before .before .has-all .ensures, c .before .before .before .before .before .before .before .before .before .before .before .before .before .solid .ensures) at (c .before .before .before .before .before .before .before .before .before .before .before .before .ask-joined .ensures)) ∙ c .before .before .before .before .before .before .before .before .before .before .enum-told .given .1)) (c .before .before .before .before .before .before .before .before .before .before .before .before .before .before .before .before .before .before .before .before .args .nodes .now) (c .before .before .before .before .before .before .before .before .loop .i) (c .before .before .before .before .before .before .before .loop-test .taken) (concat-below (c .before .before .before .before .before .before .before .before .before .before .before .before .before .before .before .before .before .before .before .before .args .self) (c .before .before .before .before .before .before .before .before .before .before .before .before .before .before .before .before .before .before .before .before .args .table .now) (c .before .before .before .before .before .before .before .before .before .before .before .before .before .before .before .before .before .before .before .before .args .text .now) (c .before .before .before .before .before .before .before .before .before .before .before .before .before .before .before .before .before .before .before .before .args .nodes .now) (let n = c .before .before .before .before .before .before .before .before .before .before .before .before .before .before .before .before .if1 .left in omega (arith, n)) (sym (rw (c .before .before .before .before .before .before .before .before .before .before .before .before .before .before .has-all .ensures, c .before .before .before .before .before .before .before .before .before .before .before .before .before .solid .ensures) at (c .before .before .before .before .before .before .before .before .before .before .before .before .ask-joined .ensures)) ∙ c .before .before .before .before .before .before .before .before .before .before .enum-told .given .1)) (c .before .before .before .before .before .before .before .before .loop .inv .2) (c .before .before .before .before .append .ensures)) (c .enum-told2 .given .1))
 
 add-i : tie.Need-add-i Inv-loop μ-loop
 add-i c = omega (arith, c .before .before .before .before .before .before .before .before .loop-test .taken, c .before .before .before .before .before .before .before .before .before .before .before .before .before .before .before .before .before .before .before .before .before .good)
@@ -82,13 +82,13 @@ loop-less : tie.Need-loop-less Inv-loop μ-loop
 loop-less c = search needs
 
 loop-again : tie.Need-loop-again Inv-loop μ-loop
-loop-again c = (omega arith, omega arith, concat-next (concat-begun (c .before .before .before .before .before .before .before .before .before .before .before .before .before .before .before .before .before .before .before .before .before .args .self) (c .before .before .before .before .before .before .before .before .before .before .before .before .before .before .before .before .before .before .before .before .before .args .table .now) (c .before .before .before .before .before .before .before .before .before .before .before .before .before .before .before .before .before .before .before .before .before .args .text .now) (c .before .before .before .before .before .before .before .before .before .before .before .before .before .before .before .before .before .before .before .before .before .args .nodes .now) (let n = c .before .before .before .before .before .before .before .before .before .before .before .before .before .before .before .before .before .if1 .left in omega (arith, n)) (sym (rw (c .before .before .before .before .before .before .before .before .before .before .before .before .before .before .before .has-all .ensures, c .before .before .before .before .before .before .before .before .before .before .before .before .before .before .solid .ensures) at (c .before .before .before .before .before .before .before .before .before .before .before .before .before .ask-joined .ensures)) ∙ c .before .before .before .before .before .before .before .before .before .before .before .enum-told .given .1) ) (c .before .before .before .before .before .before .before .before .before .before .before .before .before .before .before .before .before .before .before .before .before .args .nodes .now) (c .before .before .before .before .before .before .before .before .before .loop .i) (c .before .before .before .before .before .before .before .before .loop-test .taken) (concat-below (c .before .before .before .before .before .before .before .before .before .before .before .before .before .before .before .before .before .before .before .before .before .args .self) (c .before .before .before .before .before .before .before .before .before .before .before .before .before .before .before .before .before .before .before .before .before .args .table .now) (c .before .before .before .before .before .before .before .before .before .before .before .before .before .before .before .before .before .before .before .before .before .args .text .now) (c .before .before .before .before .before .before .before .before .before .before .before .before .before .before .before .before .before .before .before .before .before .args .nodes .now) (let n = c .before .before .before .before .before .before .before .before .before .before .before .before .before .before .before .before .before .if1 .left in omega (arith, n)) (sym (rw (c .before .before .before .before .before .before .before .before .before .before .before .before .before .before .before .has-all .ensures, c .before .before .before .before .before .before .before .before .before .before .before .before .before .before .solid .ensures) at (c .before .before .before .before .before .before .before .before .before .before .before .before .before .ask-joined .ensures)) ∙ c .before .before .before .before .before .before .before .before .before .before .before .enum-told .given .1) ) (c .before .before .before .before .before .before .before .before .before .loop .inv .2) (c .before .before .before .before .before .append .ensures) (c .before .made .given .1))
+loop-again c = (omega arith, omega arith, concat-next (concat-begun (c .before .before .before .before .before .before .before .before .before .before .before .before .before .before .before .before .before .before .before .before .before .args .self) (c .before .before .before .before .before .before .before .before .before .before .before .before .before .before .before .before .before .before .before .before .before .args .table .now) (c .before .before .before .before .before .before .before .before .before .before .before .before .before .before .before .before .before .before .before .before .before .args .text .now) (c .before .before .before .before .before .before .before .before .before .before .before .before .before .before .before .before .before .before .before .before .before .args .nodes .now) (let n = c .before .before .before .before .before .before .before .before .before .before .before .before .before .before .before .before .before .if1 .left in omega (arith, n)) (sym (rw (c .before .before .before .before .before .before .before .before .before .before .before .before .before .before .before .has-all .ensures, c .before .before .before .before .before .before .before .before .before .before .before .before .before .before .solid .ensures) at (c .before .before .before .before .before .before .before .before .before .before .before .before .before .ask-joined .ensures)) ∙ c .before .before .before .before .before .before .before .before .before .before .before .enum-told .given .1)) (c .before .before .before .before .before .before .before .before .before .before .before .before .before .before .before .before .before .before .before .before .before .args .nodes .now) (c .before .before .before .before .before .before .before .before .before .loop .i) (c .before .before .before .before .before .before .before .before .loop-test .taken) (concat-below (c .before .before .before .before .before .before .before .before .before .before .before .before .before .before .before .before .before .before .before .before .before .args .self) (c .before .before .before .before .before .before .before .before .before .before .before .before .before .before .before .before .before .before .before .before .before .args .table .now) (c .before .before .before .before .before .before .before .before .before .before .before .before .before .before .before .before .before .before .before .before .before .args .text .now) (c .before .before .before .before .before .before .before .before .before .before .before .before .before .before .before .before .before .before .before .before .before .args .nodes .now) (let n = c .before .before .before .before .before .before .before .before .before .before .before .before .before .before .before .before .before .if1 .left in omega (arith, n)) (sym (rw (c .before .before .before .before .before .before .before .before .before .before .before .before .before .before .before .has-all .ensures, c .before .before .before .before .before .before .before .before .before .before .before .before .before .before .solid .ensures) at (c .before .before .before .before .before .before .before .before .before .before .before .before .before .ask-joined .ensures)) ∙ c .before .before .before .before .before .before .before .before .before .before .before .enum-told .given .1)) (c .before .before .before .before .before .before .before .before .before .loop .inv .2) (c .before .before .before .before .before .append .ensures) (c .before .made .given .1))
 
 same-length-4 : tie.Need-same-length-4 Inv-loop μ-loop
 same-length-4 c = same-words (c .before .loop .inv .2 .stands)
 
 returns-4 : tie.Need-returns-4 Inv-loop μ-loop
-returns-4 c = concat-end (concat-begun (c .before .before .before .before .before .before .before .before .before .before .before .before .before .args .self) (c .before .before .before .before .before .before .before .before .before .before .before .before .before .args .table .now) (c .before .before .before .before .before .before .before .before .before .before .before .before .before .args .text .now) (c .before .before .before .before .before .before .before .before .before .before .before .before .before .args .nodes .now) (let n = c .before .before .before .before .before .before .before .before .before .if1 .left in omega (arith, n)) (sym (rw (c .before .before .before .before .before .before .before .has-all .ensures, c .before .before .before .before .before .before .solid .ensures) at (c .before .before .before .before .before .ask-joined .ensures)) ∙ c .before .before .before .enum-told .given .1) ) (c .before .before .before .before .before .before .before .before .before .before .before .before .before .args .nodes .now) (c .before .loop .i) (c .loop-test .left) (c .before .loop .inv .2)
+returns-4 c = concat-end (concat-begun (c .before .before .before .before .before .before .before .before .before .before .before .before .before .args .self) (c .before .before .before .before .before .before .before .before .before .before .before .before .before .args .table .now) (c .before .before .before .before .before .before .before .before .before .before .before .before .before .args .text .now) (c .before .before .before .before .before .before .before .before .before .before .before .before .before .args .nodes .now) (let n = c .before .before .before .before .before .before .before .before .before .if1 .left in omega (arith, n)) (sym (rw (c .before .before .before .before .before .before .before .has-all .ensures, c .before .before .before .before .before .before .solid .ensures) at (c .before .before .before .before .before .ask-joined .ensures)) ∙ c .before .before .before .enum-told .given .1)) (c .before .before .before .before .before .before .before .before .before .before .before .before .before .args .nodes .now) (c .before .loop .i) (c .loop-test .left) (c .before .loop .inv .2)
 
 pub concat-spec : {M : Type 1} → statement M
 concat-spec =

@@ -63,7 +63,7 @@ shared-slice-read-t33 : tie.Need-shared-slice-read-t33 Inv-loop μ-loop
 shared-slice-read-t33 c = let n = c .before .before .before .before .before .before .before .before .before .if1 .left in omega (arith, n)
 
 loop-holds : tie.Need-loop-holds Inv-loop μ-loop
-loop-holds c = let n = c .before .before .before .before .before .before .before .before .before .if1 .left in (omega arith, omega (arith, n), intersperse-start (c .before .before .before .before .before .before .before .before .before .before .before .before .before .before .args .separator .0) (c .before .before .before .before .before .before .before .before .before .before .before .before .before .before .args .nodes .now) (let n = c .before .before .before .before .before .before .before .before .before .if1 .left in omega (arith, n)) (c .before .before .before .before .before .before .before .before .before .before .before .before .before .before .args .self) (c .before .before .before .before .before .before .before .before .before .before .before .before .before .before .args .table .now) (c .before .before .before .before .before .before .before .before .before .before .before .before .before .before .args .text .now) (sym (rw (c .before .before .before .before .before .before .before .before .before .before .has-with .ensures, c .before .before .before .before .before .before .before .solid .ensures, c .before .before .before .before .before .separators .ensures) at (c .before .before .before .ask-joined .ensures)) ∙ c .before .enum-told .given .1) )
+loop-holds c = let n = c .before .before .before .before .before .before .before .before .before .if1 .left in (omega arith, omega (arith, n), intersperse-start (c .before .before .before .before .before .before .before .before .before .before .before .before .before .before .args .separator .0) (c .before .before .before .before .before .before .before .before .before .before .before .before .before .before .args .nodes .now) (let n = c .before .before .before .before .before .before .before .before .before .if1 .left in omega (arith, n)) (c .before .before .before .before .before .before .before .before .before .before .before .before .before .before .args .self) (c .before .before .before .before .before .before .before .before .before .before .before .before .before .before .args .table .now) (c .before .before .before .before .before .before .before .before .before .before .before .before .before .before .args .text .now) (sym (rw (c .before .before .before .before .before .before .before .before .before .before .has-with .ensures, c .before .before .before .before .before .before .before .solid .ensures, c .before .before .before .before .before .separators .ensures) at (c .before .before .before .ask-joined .ensures)) ∙ c .before .enum-told .given .1))
 
 append-requires : tie.Need-append-requires Inv-loop μ-loop
 append-requires c κs = search needs
@@ -78,7 +78,7 @@ same-length-3 : tie.Need-same-length-3 Inv-loop μ-loop
 same-length-3 c = c .before .before .before .before .append .kept .1 .0 ∙ same-words (c .before .before .before .before .before .before .before .loop .inv .2 .stands)
 
 returns-3 : tie.Need-returns-3 Inv-loop μ-loop
-returns-3 c = absurd (never (separator-went (intersperse-begun (c .before .before .before .before .before .before .before .before .before .before .before .before .before .before .before .before .before .before .before .before .before .before .args .separator .0) (c .before .before .before .before .before .before .before .before .before .before .before .before .before .before .before .before .before .before .before .before .before .before .args .nodes .now) (let n = c .before .before .before .before .before .before .before .before .before .before .before .before .before .before .before .before .before .if1 .left in omega (arith, n)) (c .before .before .before .before .before .before .before .before .before .before .before .before .before .before .before .before .before .before .before .before .before .before .args .self) (c .before .before .before .before .before .before .before .before .before .before .before .before .before .before .before .before .before .before .before .before .before .before .args .table .now) (c .before .before .before .before .before .before .before .before .before .before .before .before .before .before .before .before .before .before .before .before .before .before .args .text .now) (sym (rw (c .before .before .before .before .before .before .before .before .before .before .before .before .before .before .before .before .before .before .has-with .ensures, c .before .before .before .before .before .before .before .before .before .before .before .before .before .before .before .solid .ensures, c .before .before .before .before .before .before .before .before .before .before .before .before .before .separators .ensures) at (c .before .before .before .before .before .before .before .before .before .before .before .ask-joined .ensures)) ∙ c .before .before .before .before .before .before .before .before .before .enum-told .given .1) ) (c .before .before .before .before .before .before .before .before .before .before .before .before .before .before .before .before .before .before .before .before .before .before .args .separator .0) (c .before .before .before .before .before .before .before .before .before .before .before .before .before .before .before .before .before .before .before .before .before .before .args .nodes .now) (c .before .before .before .before .before .before .before .loop .i) (c .before .before .before .before .before .before .loop-test .taken) (intersperse-below (c .before .before .before .before .before .before .before .before .before .before .before .before .before .before .before .before .before .before .before .before .before .before .args .separator .0) (c .before .before .before .before .before .before .before .before .before .before .before .before .before .before .before .before .before .before .before .before .before .before .args .nodes .now) (let n = c .before .before .before .before .before .before .before .before .before .before .before .before .before .before .before .before .before .if1 .left in omega (arith, n)) (c .before .before .before .before .before .before .before .before .before .before .before .before .before .before .before .before .before .before .before .before .before .before .args .self) (c .before .before .before .before .before .before .before .before .before .before .before .before .before .before .before .before .before .before .before .before .before .before .args .table .now) (c .before .before .before .before .before .before .before .before .before .before .before .before .before .before .before .before .before .before .before .before .before .before .args .text .now) (sym (rw (c .before .before .before .before .before .before .before .before .before .before .before .before .before .before .before .before .before .before .has-with .ensures, c .before .before .before .before .before .before .before .before .before .before .before .before .before .before .before .solid .ensures, c .before .before .before .before .before .before .before .before .before .before .before .before .before .separators .ensures) at (c .before .before .before .before .before .before .before .before .before .before .before .ask-joined .ensures)) ∙ c .before .before .before .before .before .before .before .before .before .enum-told .given .1) ) (c .before .before .before .before .before .before .before .loop .inv .2) (c .before .before .before .before .append .ensures)) (c .enum-told2 .given .1))
+returns-3 c = absurd (never (separator-went (intersperse-begun (c .before .before .before .before .before .before .before .before .before .before .before .before .before .before .before .before .before .before .before .before .before .before .args .separator .0) (c .before .before .before .before .before .before .before .before .before .before .before .before .before .before .before .before .before .before .before .before .before .before .args .nodes .now) (let n = c .before .before .before .before .before .before .before .before .before .before .before .before .before .before .before .before .before .if1 .left in omega (arith, n)) (c .before .before .before .before .before .before .before .before .before .before .before .before .before .before .before .before .before .before .before .before .before .before .args .self) (c .before .before .before .before .before .before .before .before .before .before .before .before .before .before .before .before .before .before .before .before .before .before .args .table .now) (c .before .before .before .before .before .before .before .before .before .before .before .before .before .before .before .before .before .before .before .before .before .before .args .text .now) (sym (rw (c .before .before .before .before .before .before .before .before .before .before .before .before .before .before .before .before .before .before .has-with .ensures, c .before .before .before .before .before .before .before .before .before .before .before .before .before .before .before .solid .ensures, c .before .before .before .before .before .before .before .before .before .before .before .before .before .separators .ensures) at (c .before .before .before .before .before .before .before .before .before .before .before .ask-joined .ensures)) ∙ c .before .before .before .before .before .before .before .before .before .enum-told .given .1)) (c .before .before .before .before .before .before .before .before .before .before .before .before .before .before .before .before .before .before .before .before .before .before .args .separator .0) (c .before .before .before .before .before .before .before .before .before .before .before .before .before .before .before .before .before .before .before .before .before .before .args .nodes .now) (c .before .before .before .before .before .before .before .loop .i) (c .before .before .before .before .before .before .loop-test .taken) (intersperse-below (c .before .before .before .before .before .before .before .before .before .before .before .before .before .before .before .before .before .before .before .before .before .before .args .separator .0) (c .before .before .before .before .before .before .before .before .before .before .before .before .before .before .before .before .before .before .before .before .before .before .args .nodes .now) (let n = c .before .before .before .before .before .before .before .before .before .before .before .before .before .before .before .before .before .if1 .left in omega (arith, n)) (c .before .before .before .before .before .before .before .before .before .before .before .before .before .before .before .before .before .before .before .before .before .before .args .self) (c .before .before .before .before .before .before .before .before .before .before .before .before .before .before .before .before .before .before .before .before .before .before .args .table .now) (c .before .before .before .before .before .before .before .before .before .before .before .before .before .before .before .before .before .before .before .before .before .before .args .text .now) (sym (rw (c .before .before .before .before .before .before .before .before .before .before .before .before .before .before .before .before .before .before .has-with .ensures, c .before .before .before .before .before .before .before .before .before .before .before .before .before .before .before .solid .ensures, c .before .before .before .before .before .before .before .before .before .before .before .before .before .separators .ensures) at (c .before .before .before .before .before .before .before .before .before .before .before .ask-joined .ensures)) ∙ c .before .before .before .before .before .before .before .before .before .enum-told .given .1)) (c .before .before .before .before .before .before .before .loop .inv .2) (c .before .before .before .before .append .ensures)) (c .enum-told2 .given .1))
 
 mul-t34 : tie.Need-mul-t34 Inv-loop μ-loop
 mul-t34 c = omega (arith, c .before .before .before .before .before .before .before .before .loop-test .taken, c .before .before .before .before .before .before .before .before .before .before .before .before .before .before .before .before .before .before .before .before .before .before .before .before .good)
@@ -99,7 +99,7 @@ same-length-4 : tie.Need-same-length-4 Inv-loop μ-loop
 same-length-4 c = c .before .before .before .before .append2 .kept .1 .0 ∙ c .before .before .before .before .before .before .before .before .before .before .before .before .append .kept .1 .0 ∙ same-words (c .before .before .before .before .before .before .before .before .before .before .before .before .before .before .before .loop .inv .2 .stands)
 
 returns-4 : tie.Need-returns-4 Inv-loop μ-loop
-returns-4 c = absurd (never (node-went (intersperse-begun (c .before .before .before .before .before .before .before .before .before .before .before .before .before .before .before .before .before .before .before .before .before .before .before .before .before .before .before .before .before .before .args .separator .0) (c .before .before .before .before .before .before .before .before .before .before .before .before .before .before .before .before .before .before .before .before .before .before .before .before .before .before .before .before .before .before .args .nodes .now) (let n = c .before .before .before .before .before .before .before .before .before .before .before .before .before .before .before .before .before .before .before .before .before .before .before .before .before .if1 .left in omega (arith, n)) (c .before .before .before .before .before .before .before .before .before .before .before .before .before .before .before .before .before .before .before .before .before .before .before .before .before .before .before .before .before .before .args .self) (c .before .before .before .before .before .before .before .before .before .before .before .before .before .before .before .before .before .before .before .before .before .before .before .before .before .before .before .before .before .before .args .table .now) (c .before .before .before .before .before .before .before .before .before .before .before .before .before .before .before .before .before .before .before .before .before .before .before .before .before .before .before .before .before .before .args .text .now) (sym (rw (c .before .before .before .before .before .before .before .before .before .before .before .before .before .before .before .before .before .before .before .before .before .before .before .before .before .before .has-with .ensures, c .before .before .before .before .before .before .before .before .before .before .before .before .before .before .before .before .before .before .before .before .before .before .before .solid .ensures, c .before .before .before .before .before .before .before .before .before .before .before .before .before .before .before .before .before .before .before .before .before .separators .ensures) at (c .before .before .before .before .before .before .before .before .before .before .before .before .before .before .before .before .before .before .before .ask-joined .ensures)) ∙ c .before .before .before .before .before .before .before .before .before .before .before .before .before .before .before .before .before .enum-told .given .1) ) (c .before .before .before .before .before .before .before .before .before .before .before .before .before .before .before .before .before .before .before .before .before .before .before .before .before .before .before .before .before .before .args .separator .0) (c .before .before .before .before .before .before .before .before .before .before .before .before .before .before .before .before .before .before .before .before .before .before .before .before .before .before .before .before .before .before .args .nodes .now) (c .before .before .before .before .before .before .before .before .before .before .before .before .before .before .before .loop .i) (c .before .before .before .before .before .before .before .before .before .before .before .before .before .before .loop-test .taken) (intersperse-below (c .before .before .before .before .before .before .before .before .before .before .before .before .before .before .before .before .before .before .before .before .before .before .before .before .before .before .before .before .before .before .args .separator .0) (c .before .before .before .before .before .before .before .before .before .before .before .before .before .before .before .before .before .before .before .before .before .before .before .before .before .before .before .before .before .before .args .nodes .now) (let n = c .before .before .before .before .before .before .before .before .before .before .before .before .before .before .before .before .before .before .before .before .before .before .before .before .before .if1 .left in omega (arith, n)) (c .before .before .before .before .before .before .before .before .before .before .before .before .before .before .before .before .before .before .before .before .before .before .before .before .before .before .before .before .before .before .args .self) (c .before .before .before .before .before .before .before .before .before .before .before .before .before .before .before .before .before .before .before .before .before .before .before .before .before .before .before .before .before .before .args .table .now) (c .before .before .before .before .before .before .before .before .before .before .before .before .before .before .before .before .before .before .before .before .before .before .before .before .before .before .before .before .before .before .args .text .now) (sym (rw (c .before .before .before .before .before .before .before .before .before .before .before .before .before .before .before .before .before .before .before .before .before .before .before .before .before .before .has-with .ensures, c .before .before .before .before .before .before .before .before .before .before .before .before .before .before .before .before .before .before .before .before .before .before .before .solid .ensures, c .before .before .before .before .before .before .before .before .before .before .before .before .before .before .before .before .before .before .before .before .before .separators .ensures) at (c .before .before .before .before .before .before .before .before .before .before .before .before .before .before .before .before .before .before .before .ask-joined .ensures)) ∙ c .before .before .before .before .before .before .before .before .before .before .before .before .before .before .before .before .before .enum-told .given .1) ) (c .before .before .before .before .before .before .before .before .before .before .before .before .before .before .before .loop .inv .2) (c .before .before .before .before .before .before .before .before .before .before .before .before .append .ensures) (c .before .before .before .before .before .before .before .before .made .given .1) (c .before .before .before .before .append2 .ensures)) (c .enum-told3 .given .1))
+returns-4 c = absurd (never (node-went (intersperse-begun (c .before .before .before .before .before .before .before .before .before .before .before .before .before .before .before .before .before .before .before .before .before .before .before .before .before .before .before .before .before .before .args .separator .0) (c .before .before .before .before .before .before .before .before .before .before .before .before .before .before .before .before .before .before .before .before .before .before .before .before .before .before .before .before .before .before .args .nodes .now) (let n = c .before .before .before .before .before .before .before .before .before .before .before .before .before .before .before .before .before .before .before .before .before .before .before .before .before .if1 .left in omega (arith, n)) (c .before .before .before .before .before .before .before .before .before .before .before .before .before .before .before .before .before .before .before .before .before .before .before .before .before .before .before .before .before .before .args .self) (c .before .before .before .before .before .before .before .before .before .before .before .before .before .before .before .before .before .before .before .before .before .before .before .before .before .before .before .before .before .before .args .table .now) (c .before .before .before .before .before .before .before .before .before .before .before .before .before .before .before .before .before .before .before .before .before .before .before .before .before .before .before .before .before .before .args .text .now) (sym (rw (c .before .before .before .before .before .before .before .before .before .before .before .before .before .before .before .before .before .before .before .before .before .before .before .before .before .before .has-with .ensures, c .before .before .before .before .before .before .before .before .before .before .before .before .before .before .before .before .before .before .before .before .before .before .before .solid .ensures, c .before .before .before .before .before .before .before .before .before .before .before .before .before .before .before .before .before .before .before .before .before .separators .ensures) at (c .before .before .before .before .before .before .before .before .before .before .before .before .before .before .before .before .before .before .before .ask-joined .ensures)) ∙ c .before .before .before .before .before .before .before .before .before .before .before .before .before .before .before .before .before .enum-told .given .1)) (c .before .before .before .before .before .before .before .before .before .before .before .before .before .before .before .before .before .before .before .before .before .before .before .before .before .before .before .before .before .before .args .separator .0) (c .before .before .before .before .before .before .before .before .before .before .before .before .before .before .before .before .before .before .before .before .before .before .before .before .before .before .before .before .before .before .args .nodes .now) (c .before .before .before .before .before .before .before .before .before .before .before .before .before .before .before .loop .i) (c .before .before .before .before .before .before .before .before .before .before .before .before .before .before .loop-test .taken) (intersperse-below (c .before .before .before .before .before .before .before .before .before .before .before .before .before .before .before .before .before .before .before .before .before .before .before .before .before .before .before .before .before .before .args .separator .0) (c .before .before .before .before .before .before .before .before .before .before .before .before .before .before .before .before .before .before .before .before .before .before .before .before .before .before .before .before .before .before .args .nodes .now) (let n = c .before .before .before .before .before .before .before .before .before .before .before .before .before .before .before .before .before .before .before .before .before .before .before .before .before .if1 .left in omega (arith, n)) (c .before .before .before .before .before .before .before .before .before .before .before .before .before .before .before .before .before .before .before .before .before .before .before .before .before .before .before .before .before .before .args .self) (c .before .before .before .before .before .before .before .before .before .before .before .before .before .before .before .before .before .before .before .before .before .before .before .before .before .before .before .before .before .before .args .table .now) (c .before .before .before .before .before .before .before .before .before .before .before .before .before .before .before .before .before .before .before .before .before .before .before .before .before .before .before .before .before .before .args .text .now) (sym (rw (c .before .before .before .before .before .before .before .before .before .before .before .before .before .before .before .before .before .before .before .before .before .before .before .before .before .before .has-with .ensures, c .before .before .before .before .before .before .before .before .before .before .before .before .before .before .before .before .before .before .before .before .before .before .before .solid .ensures, c .before .before .before .before .before .before .before .before .before .before .before .before .before .before .before .before .before .before .before .before .before .separators .ensures) at (c .before .before .before .before .before .before .before .before .before .before .before .before .before .before .before .before .before .before .before .ask-joined .ensures)) ∙ c .before .before .before .before .before .before .before .before .before .before .before .before .before .before .before .before .before .enum-told .given .1)) (c .before .before .before .before .before .before .before .before .before .before .before .before .before .before .before .loop .inv .2) (c .before .before .before .before .before .before .before .before .before .before .before .before .append .ensures) (c .before .before .before .before .before .before .before .before .made .given .1) (c .before .before .before .before .append2 .ensures)) (c .enum-told3 .given .1))
 
 add-i : tie.Need-add-i Inv-loop μ-loop
 add-i c = omega (arith, c .before .before .before .before .before .before .before .before .before .before .before .before .before .before .before .loop-test .taken, c .before .before .before .before .before .before .before .before .before .before .before .before .before .before .before .before .before .before .before .before .before .before .before .before .before .before .before .before .before .before .before .good)
@@ -108,13 +108,13 @@ loop-less : tie.Need-loop-less Inv-loop μ-loop
 loop-less c = omega (arith, c .before .before .before .before .before .before .before .before .before .before .before .before .before .before .before .loop-test .taken)
 
 loop-again : tie.Need-loop-again Inv-loop μ-loop
-loop-again c = (omega (arith, c .before .before .before .before .before .before .before .before .before .before .before .before .before .before .before .before .loop .inv .0), omega (arith, c .before .before .before .before .before .before .before .before .before .before .before .before .before .before .before .loop-test .taken), node-next (intersperse-begun (c .before .before .before .before .before .before .before .before .before .before .before .before .before .before .before .before .before .before .before .before .before .before .before .before .before .before .before .before .before .before .before .args .separator .0) (c .before .before .before .before .before .before .before .before .before .before .before .before .before .before .before .before .before .before .before .before .before .before .before .before .before .before .before .before .before .before .before .args .nodes .now) (let n = c .before .before .before .before .before .before .before .before .before .before .before .before .before .before .before .before .before .before .before .before .before .before .before .before .before .before .if1 .left in omega (arith, n)) (c .before .before .before .before .before .before .before .before .before .before .before .before .before .before .before .before .before .before .before .before .before .before .before .before .before .before .before .before .before .before .before .args .self) (c .before .before .before .before .before .before .before .before .before .before .before .before .before .before .before .before .before .before .before .before .before .before .before .before .before .before .before .before .before .before .before .args .table .now) (c .before .before .before .before .before .before .before .before .before .before .before .before .before .before .before .before .before .before .before .before .before .before .before .before .before .before .before .before .before .before .before .args .text .now) (sym (rw (c .before .before .before .before .before .before .before .before .before .before .before .before .before .before .before .before .before .before .before .before .before .before .before .before .before .before .before .has-with .ensures, c .before .before .before .before .before .before .before .before .before .before .before .before .before .before .before .before .before .before .before .before .before .before .before .before .solid .ensures, c .before .before .before .before .before .before .before .before .before .before .before .before .before .before .before .before .before .before .before .before .before .before .separators .ensures) at (c .before .before .before .before .before .before .before .before .before .before .before .before .before .before .before .before .before .before .before .before .ask-joined .ensures)) ∙ c .before .before .before .before .before .before .before .before .before .before .before .before .before .before .before .before .before .before .enum-told .given .1) ) (c .before .before .before .before .before .before .before .before .before .before .before .before .before .before .before .before .before .before .before .before .before .before .before .before .before .before .before .before .before .before .before .args .separator .0) (c .before .before .before .before .before .before .before .before .before .before .before .before .before .before .before .before .before .before .before .before .before .before .before .before .before .before .before .before .before .before .before .args .nodes .now) (c .before .before .before .before .before .before .before .before .before .before .before .before .before .before .before .before .loop .i) (c .before .before .before .before .before .before .before .before .before .before .before .before .before .before .before .loop-test .taken) (intersperse-below (c .before .before .before .before .before .before .before .before .before .before .before .before .before .before .before .before .before .before .before .before .before .before .before .before .before .before .before .before .before .before .before .args .separator .0) (c .before .before .before .before .before .before .before .before .before .before .before .before .before .before .before .before .before .before .before .before .before .before .before .before .before .before .before .before .before .before .before .args .nodes .now) (let n = c .before .before .before .before .before .before .before .before .before .before .before .before .before .before .before .before .before .before .before .before .before .before .before .before .before .before .if1 .left in omega (arith, n)) (c .before .before .before .before .before .before .before .before .before .before .before .before .before .before .before .before .before .before .before .before .before .before .before .before .before .before .before .before .before .before .before .args .self) (c .before .before .before .before .before .before .before .before .before .before .before .before .before .before .before .before .before .before .before .before .before .before .before .before .before .before .before .before .before .before .before .args .table .now) (c .before .before .before .before .before .before .before .before .before .before .before .before .before .before .before .before .before .before .before .before .before .before .before .before .before .before .before .before .before .before .before .args .text .now) (sym (rw (c .before .before .before .before .before .before .before .before .before .before .before .before .before .before .before .before .before .before .before .before .before .before .before .before .before .before .before .has-with .ensures, c .before .before .before .before .before .before .before .before .before .before .before .before .before .before .before .before .before .before .before .before .before .before .before .before .solid .ensures, c .before .before .before .before .before .before .before .before .before .before .before .before .before .before .before .before .before .before .before .before .before .before .separators .ensures) at (c .before .before .before .before .before .before .before .before .before .before .before .before .before .before .before .before .before .before .before .before .ask-joined .ensures)) ∙ c .before .before .before .before .before .before .before .before .before .before .before .before .before .before .before .before .before .before .enum-told .given .1) ) (c .before .before .before .before .before .before .before .before .before .before .before .before .before .before .before .before .loop .inv .2) (c .before .before .before .before .before .before .before .before .before .before .before .before .before .append .ensures) (c .before .before .before .before .before .before .before .before .before .made .given .1) (c .before .before .before .before .before .append2 .ensures) (c .before .made2 .given .1))
+loop-again c = (omega (arith, c .before .before .before .before .before .before .before .before .before .before .before .before .before .before .before .before .loop .inv .0), omega (arith, c .before .before .before .before .before .before .before .before .before .before .before .before .before .before .before .loop-test .taken), node-next (intersperse-begun (c .before .before .before .before .before .before .before .before .before .before .before .before .before .before .before .before .before .before .before .before .before .before .before .before .before .before .before .before .before .before .before .args .separator .0) (c .before .before .before .before .before .before .before .before .before .before .before .before .before .before .before .before .before .before .before .before .before .before .before .before .before .before .before .before .before .before .before .args .nodes .now) (let n = c .before .before .before .before .before .before .before .before .before .before .before .before .before .before .before .before .before .before .before .before .before .before .before .before .before .before .if1 .left in omega (arith, n)) (c .before .before .before .before .before .before .before .before .before .before .before .before .before .before .before .before .before .before .before .before .before .before .before .before .before .before .before .before .before .before .before .args .self) (c .before .before .before .before .before .before .before .before .before .before .before .before .before .before .before .before .before .before .before .before .before .before .before .before .before .before .before .before .before .before .before .args .table .now) (c .before .before .before .before .before .before .before .before .before .before .before .before .before .before .before .before .before .before .before .before .before .before .before .before .before .before .before .before .before .before .before .args .text .now) (sym (rw (c .before .before .before .before .before .before .before .before .before .before .before .before .before .before .before .before .before .before .before .before .before .before .before .before .before .before .before .has-with .ensures, c .before .before .before .before .before .before .before .before .before .before .before .before .before .before .before .before .before .before .before .before .before .before .before .before .solid .ensures, c .before .before .before .before .before .before .before .before .before .before .before .before .before .before .before .before .before .before .before .before .before .before .separators .ensures) at (c .before .before .before .before .before .before .before .before .before .before .before .before .before .before .before .before .before .before .before .before .ask-joined .ensures)) ∙ c .before .before .before .before .before .before .before .before .before .before .before .before .before .before .before .before .before .before .enum-told .given .1)) (c .before .before .before .before .before .before .before .before .before .before .before .before .before .before .before .before .before .before .before .before .before .before .before .before .before .before .before .before .before .before .before .args .separator .0) (c .before .before .before .before .before .before .before .before .before .before .before .before .before .before .before .before .before .before .before .before .before .before .before .before .before .before .before .before .before .before .before .args .nodes .now) (c .before .before .before .before .before .before .before .before .before .before .before .before .before .before .before .before .loop .i) (c .before .before .before .before .before .before .before .before .before .before .before .before .before .before .before .loop-test .taken) (intersperse-below (c .before .before .before .before .before .before .before .before .before .before .before .before .before .before .before .before .before .before .before .before .before .before .before .before .before .before .before .before .before .before .before .args .separator .0) (c .before .before .before .before .before .before .before .before .before .before .before .before .before .before .before .before .before .before .before .before .before .before .before .before .before .before .before .before .before .before .before .args .nodes .now) (let n = c .before .before .before .before .before .before .before .before .before .before .before .before .before .before .before .before .before .before .before .before .before .before .before .before .before .before .if1 .left in omega (arith, n)) (c .before .before .before .before .before .before .before .before .before .before .before .before .before .before .before .before .before .before .before .before .before .before .before .before .before .before .before .before .before .before .before .args .self) (c .before .before .before .before .before .before .before .before .before .before .before .before .before .before .before .before .before .before .before .before .before .before .before .before .before .before .before .before .before .before .before .args .table .now) (c .before .before .before .before .before .before .before .before .before .before .before .before .before .before .before .before .before .before .before .before .before .before .before .before .before .before .before .before .before .before .before .args .text .now) (sym (rw (c .before .before .before .before .before .before .before .before .before .before .before .before .before .before .before .before .before .before .before .before .before .before .before .before .before .before .before .has-with .ensures, c .before .before .before .before .before .before .before .before .before .before .before .before .before .before .before .before .before .before .before .before .before .before .before .before .solid .ensures, c .before .before .before .before .before .before .before .before .before .before .before .before .before .before .before .before .before .before .before .before .before .before .separators .ensures) at (c .before .before .before .before .before .before .before .before .before .before .before .before .before .before .before .before .before .before .before .before .ask-joined .ensures)) ∙ c .before .before .before .before .before .before .before .before .before .before .before .before .before .before .before .before .before .before .enum-told .given .1)) (c .before .before .before .before .before .before .before .before .before .before .before .before .before .before .before .before .loop .inv .2) (c .before .before .before .before .before .before .before .before .before .before .before .before .before .append .ensures) (c .before .before .before .before .before .before .before .before .before .made .given .1) (c .before .before .before .before .before .append2 .ensures) (c .before .made2 .given .1))
 
 same-length-5 : tie.Need-same-length-5 Inv-loop μ-loop
 same-length-5 c = same-words (c .before .loop .inv .2 .stands)
 
 returns-5 : tie.Need-returns-5 Inv-loop μ-loop
-returns-5 c = intersperse-end (intersperse-begun (c .before .before .before .before .before .before .before .before .before .before .before .before .before .before .before .before .args .separator .0) (c .before .before .before .before .before .before .before .before .before .before .before .before .before .before .before .before .args .nodes .now) (let n = c .before .before .before .before .before .before .before .before .before .before .before .if1 .left in omega (arith, n)) (c .before .before .before .before .before .before .before .before .before .before .before .before .before .before .before .before .args .self) (c .before .before .before .before .before .before .before .before .before .before .before .before .before .before .before .before .args .table .now) (c .before .before .before .before .before .before .before .before .before .before .before .before .before .before .before .before .args .text .now) (sym (rw (c .before .before .before .before .before .before .before .before .before .before .before .before .has-with .ensures, c .before .before .before .before .before .before .before .before .before .solid .ensures, c .before .before .before .before .before .before .before .separators .ensures) at (c .before .before .before .before .before .ask-joined .ensures)) ∙ c .before .before .before .enum-told .given .1) ) (c .before .before .before .before .before .before .before .before .before .before .before .before .before .before .before .before .args .separator .0) (c .before .before .before .before .before .before .before .before .before .before .before .before .before .before .before .before .args .nodes .now) (c .before .loop .i) (c .loop-test .left) (c .before .loop .inv .2)
+returns-5 c = intersperse-end (intersperse-begun (c .before .before .before .before .before .before .before .before .before .before .before .before .before .before .before .before .args .separator .0) (c .before .before .before .before .before .before .before .before .before .before .before .before .before .before .before .before .args .nodes .now) (let n = c .before .before .before .before .before .before .before .before .before .before .before .if1 .left in omega (arith, n)) (c .before .before .before .before .before .before .before .before .before .before .before .before .before .before .before .before .args .self) (c .before .before .before .before .before .before .before .before .before .before .before .before .before .before .before .before .args .table .now) (c .before .before .before .before .before .before .before .before .before .before .before .before .before .before .before .before .args .text .now) (sym (rw (c .before .before .before .before .before .before .before .before .before .before .before .before .has-with .ensures, c .before .before .before .before .before .before .before .before .before .solid .ensures, c .before .before .before .before .before .before .before .separators .ensures) at (c .before .before .before .before .before .ask-joined .ensures)) ∙ c .before .before .before .enum-told .given .1)) (c .before .before .before .before .before .before .before .before .before .before .before .before .before .before .before .before .args .separator .0) (c .before .before .before .before .before .before .before .before .before .before .before .before .before .before .before .before .args .nodes .now) (c .before .loop .i) (c .loop-test .left) (c .before .loop .inv .2)
 
 pub intersperse-spec : {M : Type 1} → statement M
 intersperse-spec =
