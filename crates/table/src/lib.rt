@@ -100,22 +100,52 @@ pub struct Fault {
 
 // ---- one node
 
+// Words that the kind doesn't use are 0.
 fn unused_zero(words: u32, a: u32, b: u32, c: u32) -> bool
     ensures { λ r. ⌜ r ≡ unusedZero words a b c ⌝ }
 {
-    ((1 <= words) | (a == 0)) & ((2 <= words) | (b == 0)) & ((3 <= words) | (c == 0))
+    if 3 <= words {
+        return true;
+    }
+    if c != 0 {
+        return false;
+    }
+    if 2 <= words {
+        return true;
+    }
+    if b != 0 {
+        return false;
+    }
+    if 1 <= words {
+        return true;
+    }
+    a == 0
 }
 
+// A child's number is below its parent's.
 fn children_below(n: u32, children: u32, a: u32, b: u32) -> bool
     ensures { λ r. ⌜ r ≡ childrenBelow n children a b ⌝ }
 {
-    ((children <= 0) | (a < n)) & ((children <= 1) | (b < n))
+    if children <= 0 {
+        return true;
+    }
+    if n <= a {
+        return false;
+    }
+    if children <= 1 {
+        return true;
+    }
+    b < n
 }
 
+// Amount 0 to 1,000; 0 adds, 1 subtracts.
 fn nest_in_range(k: u32, b: u32, c: u32) -> bool
     ensures { λ r. ⌜ r ≡ nestInRange k b c ⌝ }
 {
-    (k != 4) | ((b <= 1000) & (c <= 1))
+    if k != 4 {
+        return true;
+    }
+    (b <= 1000) & (c <= 1)
 }
 
 // A Text's range, then its bytes and columns. Where all of the text is below 128, so is every part of it.
@@ -177,7 +207,7 @@ fn first_fault(table: &[u32], text: &[u8], plain: bool) -> Fault
     requires { ⌜ (plain ≡ ascii (now text)) × (length (now table) ≤ 4096) ⌝ }
     ensures { λ r. ⌜ (r .answer ≡ firstFault (now (table .entry)) (now (text .entry)) (length (now (table .entry)) / 4) .answer) × (r .place .0 ≡ firstFault (now (table .entry)) (now (text .entry)) (length (now (table .entry)) / 4) .place) ⌝ }
 {
-    let kinds = KINDS;
+    let kinds = all_kinds();
     let nodes = table.len() / 4;
     let mut n = 0;
     while n < nodes {
