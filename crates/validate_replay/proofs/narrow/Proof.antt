@@ -2,7 +2,7 @@
 use borrow.Author.Needs.{needs}
 use mathlib.Core.Path.{_≡_}
 use Prim.Native.Nat.{_-_}
-use lib.ListN.{length, length-set}
+use lib.ListN.{length}
 use Rattle.validate_replay.proofs.narrow.Statement.{statement}
 use Rattle.validate_replay.proofs.narrow.Tie as tie
 
