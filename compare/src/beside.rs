@@ -1,0 +1,90 @@
+//! Crate pretty beside us: a node table as the crate's document, and what the crate writes of it.
+
+use crate::model::{kind::*, Event};
+use pretty::{Arena, Doc, DocAllocator, DocBuilder, RefDoc, Render, RenderAnnotated};
+
+/// What the crate wrote before it ended, and whether it failed.
+#[derive(Clone, Debug, Default, PartialEq, Eq)]
+pub struct Wrote {
+    pub failed: bool,
+    pub bytes: Vec<u8>,
+    pub events: Vec<Event>,
+    open: Vec<u32>,
+}
+
+/// The label of a closing that had no opening.
+pub const NO_LABEL: u32 = u32::MAX;
+
+impl Render for Wrote {
+    type Error = ();
+
+    fn write_str(&mut self, s: &str) -> Result<usize, ()> {
+        self.bytes.extend_from_slice(s.as_bytes());
+        Ok(s.len())
+    }
+
+    fn fail_doc(&self) {}
+}
+
+impl RenderAnnotated<'_, u32> for Wrote {
+    fn push_annotation(&mut self, label: &u32) -> Result<(), ()> {
+        self.open.push(*label);
+        self.events.push(Event { offset: self.bytes.len() as u32, mark: 1, label: *label });
+        Ok(())
+    }
+
+    fn pop_annotation(&mut self) -> Result<(), ()> {
+        let label = self.open.pop().unwrap_or(NO_LABEL);
+        self.events.push(Event { offset: self.bytes.len() as u32, mark: 0, label });
+        Ok(())
+    }
+}
+
+/// The crate's document of a valid table's root, each node built once and shared as the table shares it.
+/// A Text whose bytes are not all below 128 has its columns by RenderLen; Align is the crate's own `align`.
+pub fn document<'a>(arena: &'a Arena<'a, u32>, table: &[u32], text: &'a [u8]) -> RefDoc<'a, u32> {
+    let mut docs: Vec<RefDoc<'a, u32>> = Vec::with_capacity(table.len() / 4);
+    for node in table.chunks_exact(4) {
+        let at = |word: usize| docs[node[word] as usize];
+        let doc = match node[0] {
+            NIL => Doc::Nil,
+            APPEND => Doc::Append(at(1), at(2)),
+            GROUP => Doc::Group(at(1)),
+            FLAT_ALT => Doc::FlatAlt(at(1), at(2)),
+            NEST if node[3] == 0 => Doc::Nest(node[2] as isize, at(1)),
+            NEST => Doc::Nest(-(node[2] as isize), at(1)),
+            HARDLINE => Doc::Hardline,
+            TEXT => {
+                let bytes = &text[node[1] as usize..][..node[2] as usize];
+                let written = Doc::BorrowedText(std::str::from_utf8(bytes).expect("a valid table"));
+                if bytes.is_ascii() {
+                    written
+                } else {
+                    Doc::RenderLen(node[3] as usize, arena.alloc(written))
+                }
+            }
+            ANNOTATED => Doc::Annotated(node[2], at(1)),
+            UNION => Doc::Union(at(1), at(2)),
+            ALIGN => {
+                docs.push(DocBuilder(arena, at(1).into()).align().into_doc());
+                continue;
+            }
+            _ => Doc::Fail,
+        };
+        docs.push(arena.alloc(doc));
+    }
+    *docs.last().expect("a valid table")
+}
+
+/// What the crate writes of a document at a width.
+pub fn write<'a>(document: &Doc<'a, RefDoc<'a, u32>, u32>, width: u32) -> Wrote {
+    let mut wrote = Wrote::default();
+    wrote.failed = document.render_raw(width as usize, &mut wrote).is_err();
+    wrote
+}
+
+/// What the crate writes of a valid table.
+pub fn lay_out(table: &[u32], text: &[u8], width: u32) -> Wrote {
+    let arena = Arena::new();
+    write(&document(&arena, table, text), width)
+}
