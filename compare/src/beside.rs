@@ -1,7 +1,8 @@
-//! Crate pretty beside us: a node table as the crate's document, and what the crate writes of it.
+//! Crate pretty beside us: a node table as the crate's document, its constructors by ours' names, and what it writes.
 
+use crate::make::Make;
 use crate::model::{kind::*, Event};
-use pretty::{Arena, Doc, DocAllocator, DocBuilder, RefDoc, Render, RenderAnnotated};
+use pretty::{Affixes, Arena, BlockDoc, Doc, DocAllocator, DocBuilder, RefDoc, Render, RenderAnnotated};
 
 /// What the crate wrote before it ended, and whether it failed.
 #[derive(Clone, Debug, Default, PartialEq, Eq)]
@@ -87,4 +88,47 @@ pub fn write<'a>(document: &Doc<'a, RefDoc<'a, u32>, u32>, width: u32) -> Wrote 
 pub fn lay_out(table: &[u32], text: &[u8], width: u32) -> Wrote {
     let arena = Arena::new();
     write(&document(&arena, table, text), width)
+}
+
+/// A document under construction by the crate's own constructors.
+pub type Built<'a> = DocBuilder<'a, Arena<'a, u32>, u32>;
+
+/// The crate's constructor of the same name, called with documents made before.
+pub fn make<'a>(arena: &'a Arena<'a, u32>, made: &[Built<'a>], make: &Make) -> Built<'a> {
+    let at = |n: &u32| made[*n as usize].clone();
+    let by = |amount: &u32, way: &u32| if *way == 0 { *amount as isize } else { -(*amount as isize) };
+    match make {
+        Make::Nil => arena.nil(),
+        Make::Fail => arena.fail(),
+        Make::Hardline => arena.hardline(),
+        Make::Space => arena.space(),
+        Make::Line => arena.line(),
+        Make::LineFlat => arena.line_(),
+        Make::Softline => arena.softline(),
+        Make::SoftlineFlat => arena.softline_(),
+        Make::Text(bytes, _) => arena.text(String::from_utf8(bytes.clone()).expect("a text")),
+        Make::Append(a, b) => at(a).append(at(b)),
+        Make::Concat(nodes) => arena.concat(nodes.iter().map(at)),
+        Make::Intersperse(nodes, separator) => arena.intersperse(nodes.iter().map(at), at(separator)),
+        Make::FlatAlt(broken, flat) => at(broken).flat_alt(at(flat)),
+        Make::Group(a) => at(a).group(),
+        Make::Nest(a, amount, way) => at(a).nest(by(amount, way)),
+        Make::Annotate(a, label) => at(a).annotate(*label),
+        Make::Union(a, b) => at(a).union(at(b)),
+        Make::Align(a) => at(a).align(),
+        Make::Hang(a, amount, way) => at(a).hang(by(amount, way)),
+        Make::Indent(a, amount) => at(a).indent(*amount as usize),
+        Make::Enclose(a, before, after) => at(a).enclose(at(before), at(after)),
+        Make::Block(affixes, body, amount, way) => {
+            let affixes = affixes.iter().map(|affix| {
+                let both = Affixes::new(at(&affix.prefix), at(&affix.suffix));
+                if affix.nest {
+                    both.nest()
+                } else {
+                    both
+                }
+            });
+            BlockDoc { affixes: affixes.collect(), body: at(body) }.format(by(amount, way))
+        }
+    }
 }

@@ -54,6 +54,17 @@ impl Table {
         self.push(TEXT, start, bytes.len() as u32, columns)
     }
 
+    /// How many nodes the root unfolds to.
+    pub fn unfolded(&self) -> u64 {
+        let mut sizes: Vec<u64> = Vec::with_capacity(self.nodes());
+        for node in self.words.chunks(4) {
+            let (children, _) = shape(node[0]).expect("a valid table");
+            let below = node[1..1 + children].iter().fold(1u64, |sum, &child| sum.saturating_add(sizes[child as usize]));
+            sizes.push(below);
+        }
+        sizes.last().copied().unwrap_or(0)
+    }
+
     /// As document 01 writes a table: (kind,a,b,c) for each node.
     pub fn written(&self) -> String {
         let nodes: Vec<String> = self.words.chunks(4).map(|n| format!("({},{},{},{})", n[0], n[1], n[2], n[3])).collect();
@@ -102,7 +113,7 @@ const KINDS: usize = 11;
 
 /// A valid table of so many nodes. Each table has its own leaning towards some kinds, so that there are tables with
 /// many trials, with none, all marks, and so on. Most nodes take up a node that nothing uses yet; the rest share.
-/// Some tables are a spine, in which each node stands on the one before it, so that much waits at once.
+/// Some tables are a spine, in which each node that has children stands on the last such, so that much waits at once.
 pub fn random_table(random: &mut Random, nodes: usize) -> Table {
     let mut weights = [2, 9, 4, 4, 3, 4, 8, 3, 5, 2, 1];
     for weight in weights.iter_mut() {
@@ -113,6 +124,7 @@ pub fn random_table(random: &mut Random, nodes: usize) -> Table {
     weights[TEXT as usize] += 1;
     let total: usize = weights.iter().sum();
     let spine = random.one_in(4).then(|| 2 + random.below(1000));
+    let mut top = 0;
     let mut table = Table::default();
     let mut free: Vec<u32> = Vec::new();
     for n in 0..nodes {
@@ -128,8 +140,9 @@ pub fn random_table(random: &mut Random, nodes: usize) -> Table {
         let node = random_node(random, &mut table, &mut free, kind);
         if let Some(chance) = spine.filter(|_| children > 0) {
             if !random.one_in(chance) {
-                table.words[4 * n + 1 + random.below(children)] = n as u32 - 1;
+                table.words[4 * n + 1 + random.below(children)] = top;
             }
+            top = node;
         }
         free.push(node);
     }
@@ -224,6 +237,37 @@ pub fn random_width(random: &mut Random) -> u32 {
         1..=3 => random.below(80) as u32,
         _ => random.below(13) as u32,
     }
+}
+
+// ---- as large as they come
+
+/// Tables of 1,024 nodes in which as much waits, nests or is tried at once as can be.
+pub fn extreme_tables() -> Vec<Table> {
+    let chain = |first: &[u32; 4], link: &dyn Fn(u32) -> [u32; 4], last: [u32; 4]| {
+        let mut words = first.to_vec();
+        (1..1023).for_each(|n| words.extend(link(n)));
+        words.extend(last);
+        Table { words, text: b"ab".to_vec() }
+    };
+    let text = [TEXT, 0, 1, 1];
+    let wide = [TEXT, 0, 2, 2];
+    let mut tables = vec![
+        chain(&text, &|n| [APPEND, n - 1, 0, 0], [APPEND, 1022, 0, 0]),
+        chain(&text, &|n| [APPEND, 0, n - 1, 0], [APPEND, 0, 1022, 0]),
+        chain(&text, &|n| if n == 1 { [GROUP, 0, 0, 0] } else { [APPEND, n - 1, 0, 0] }, [APPEND, 1022, 1022, 0]),
+        chain(&wide, &|n| [UNION, n - 1, 0, 0], [UNION, 1022, 0, 0]),
+        chain(&wide, &|n| [UNION, 0, n - 1, 0], [UNION, 0, 1022, 0]),
+        chain(&[FAIL, 0, 0, 0], &|n| [UNION, n - 1, 0, 0], [UNION, 1022, 0, 0]),
+        chain(&text, &|n| [ANNOTATED, n - 1, n, 0], [ANNOTATED, 1022, 0, 0]),
+        chain(&wide, &|n| [if n % 2 == 0 { UNION } else { ANNOTATED }, n - 1, if n % 2 == 0 { 0 } else { n }, 0], [GROUP, 1022, 0, 0]),
+        chain(&[HARDLINE, 0, 0, 0], &|n| [NEST, n - 1, 1000, 0], [NEST, 1022, 1000, 0]),
+        chain(&[HARDLINE, 0, 0, 0], &|n| [NEST, n - 1, if n < 66 { 1 } else { 1000 }, u32::from(n < 66)], [NEST, 1022, 535, 0]),
+        chain(&[HARDLINE, 0, 0, 0], &|n| [APPEND, n - 1, n - 1, 0], [GROUP, 1022, 0, 0]),
+    ];
+    for kind in [GROUP, ALIGN] {
+        tables.push(chain(&wide, &|n| [kind, n - 1, 0, 0], [kind, 1022, 0, 0]));
+    }
+    tables
 }
 
 // ---- all up to a size
