@@ -12,3 +12,5 @@ pub mod archive;
 extern crate pretty;
 #[cfg(pretty)]
 pub mod beside;
+#[cfg(pretty)]
+pub mod differences;

@@ -318,7 +318,7 @@ fn grow(parts: &Parts, nodes: usize, table: &mut Table, used: &mut Vec<usize>, e
     }
     // each later node takes up at most one unused node more than it adds, and only the root is left unused
     let unused = used[..n].iter().filter(|&&uses| uses == 0).count();
-    if unused > nodes - n {
+    if unused > nodes - n + 1 {
         return;
     }
     let mut try_node = |table: &mut Table, kind: u32, a: u32, b: u32, c: u32| {
