@@ -20,7 +20,17 @@ pub fn kinds(table: &Table, report: &Report, wrote: &Wrote) -> Vec<&'static str>
         (6, false) => all.push("bytes: a Fail swallowed"),
         (_, true) => all.push("bytes: fails where 01 lays out"),
         _ if wrote.bytes != report.bytes => all.extend(bytes_differ(table, &report.bytes, &wrote.bytes)),
-        _ if wrote.events != report.events => all.extend(marks_differ(&report.events, &wrote.events)),
+        _ if wrote.events != report.events => {
+            let trials = table.words.chunks(4).any(|node| node[0] == UNION);
+            let hardlines = table.words.chunks(4).any(|node| node[0] == HARDLINE);
+            for [by_hardline, by_trial, by_both] in marks_differ(&report.events, &wrote.events) {
+                all.push(match (trials, hardlines) {
+                    (false, _) => by_hardline,
+                    (_, false) => by_trial,
+                    _ => by_both,
+                });
+            }
+        }
         _ => {}
     }
     all
@@ -40,7 +50,7 @@ fn bytes_differ(table: &Table, ours: &[u8], theirs: &[u8]) -> Vec<&'static str> 
     arms(table, table.nodes() - 1, None, &mut places);
     let mut seen: Vec<u8> = places.iter().map(|&(letter, _)| letter).collect();
     seen.sort_unstable();
-    if seen.windows(2).any(|two| two[0] == two[1]) {
+    if seen.windows(2).any(|two| two[0] == two[1]) || table.text.len() > 26 {
         return all;
     }
     let (our_letters, their_letters) = (letters(ours), letters(theirs));
@@ -48,7 +58,7 @@ fn bytes_differ(table: &Table, ours: &[u8], theirs: &[u8]) -> Vec<&'static str> 
     let both_gave_up = places.iter().any(|(letter, arm)| *arm == Some(SECOND) && our_letters.contains(letter) && their_letters.contains(letter));
     if both_gave_up && ours.starts_with(theirs) {
         all.push(if lines(ours) > lines(theirs) { "bytes: rows lost" } else { "bytes: the rest of a row lost" });
-    } else if both_gave_up && part_lost(ours, theirs) {
+    } else if part_lost(ours, theirs) {
         all.push("bytes: part of a row lost");
     }
     for (letter, arm) in places {
@@ -103,7 +113,14 @@ fn part_lost(ours: &[u8], theirs: &[u8]) -> bool {
     }
 }
 
-fn marks_differ(ours: &[Event], theirs: &[Event]) -> Vec<&'static str> {
+/// The same words for each cause: a Hardline, a trial, or both are in the table.
+macro_rules! by_cause {
+    ($what: literal) => {
+        [concat!("marks: ", $what, ", by a Hardline"), concat!("marks: ", $what, ", by a trial"), concat!("marks: ", $what, ", by both")]
+    };
+}
+
+fn marks_differ(ours: &[Event], theirs: &[Event]) -> Vec<[&'static str; 3]> {
     let of = |events: &[Event], mark: u32| {
         let mut list: Vec<(u32, u32)> = events.iter().filter(|e| e.mark == mark).map(|e| (e.label, e.offset)).collect();
         list.sort_unstable();
@@ -111,33 +128,33 @@ fn marks_differ(ours: &[Event], theirs: &[Event]) -> Vec<&'static str> {
     };
     let (our_ends, their_ends) = (of(ours, 0), of(theirs, 0));
     if their_ends.iter().any(|end| end.0 == NO_LABEL) {
-        return vec!["marks: a closing without an opening"];
+        return vec![by_cause!("a closing too many")];
     }
     if of(theirs, 1) != of(ours, 1) {
-        return vec!["marks: of another arm"];
+        return vec![by_cause!("of another arm")];
     }
     if their_ends.len() < our_ends.len() {
-        return vec!["marks: never closed"];
+        return vec![by_cause!("never closed")];
     }
     if our_ends == their_ends {
-        return vec!["marks: in another order"];
+        return vec![by_cause!("in another order")];
     }
     let mut all = Vec::new();
     let ends = || our_ends.iter().zip(&their_ends).filter(|(a, b)| a.0 == b.0);
     if ends().any(|(a, b)| b.1 > a.1) {
-        all.push("marks: closed late");
+        all.push(by_cause!("closed late"));
     }
     if ends().any(|(a, b)| b.1 < a.1) {
-        all.push("marks: closed early");
+        all.push(by_cause!("closed early"));
     }
     all
 }
 
-/// How much there is to a table: nodes first, then what kinds they are and how long their Texts.
+/// How much there is to a table: nodes first, then what kinds they are, how long their Texts, and what it unfolds to.
 pub fn weight(table: &Table) -> (usize, u32) {
     let kinds = [1, 1, 3, 3, 3, 1, 2, 2, 2, 3, 3];
     let one = |node: &[u32]| kinds[node[0] as usize] + if matches!(node[0], TEXT | NEST) { node[2] } else { 0 };
-    (table.nodes(), table.words.chunks(4).map(one).sum())
+    (table.nodes(), table.words.chunks(4).map(one).sum::<u32>() + 2 * table.unfolded() as u32)
 }
 
 /// Tables that are one change smaller: a node given for its parent, a node left out, a shorter Text or Nest, a lesser width.

@@ -1,6 +1,6 @@
 //! smallest [nodes=K] [tries=N]: searches for the smallest tables on which the crate does something else than document 01
 //! says, one for each kind of difference: every table of 1 to K nodes at the widths 0 to 3, then N random ones (seed 1),
-//! each made smaller as long as it still shows its kind. docs/DIFFERENCES.md tells them one by one.
+//! and two made by hand, each made smaller as long as it still shows its kind. docs/DIFFERENCES.md tells them one by one.
 
 #[cfg(not(pretty))]
 fn main() {
@@ -39,13 +39,14 @@ mod search {
         let mut found = Found::new();
         (1..=nodes).for_each(|nodes| exhaust(&mut found, nodes));
         let mut random = Random(1);
-        for _ in 0..tries {
+        let random = (0..tries).map(|_| {
             let nodes = 4 + random.below(14);
-            let table = tidy(&random_table(&mut random, nodes));
-            let width = random.below(5) as u32;
+            (tidy(&random_table(&mut random, nodes)), random.below(5) as u32)
+        });
+        for (table, width) in by_hand().into_iter().chain(random) {
             for kind in shows(&table, width) {
                 let least = shrink(&table, width, kind);
-                if found.get(kind).map_or(true, |(best, width)| weight(&least) < weight(&(best.clone(), *width))) {
+                if found.get(kind).map_or(true, |best| weight(&least) < weight(best)) {
                     found.insert(kind, least);
                 }
             }
@@ -53,6 +54,29 @@ mod search {
         for (kind, (table, width)) in &found {
             tell(kind, table, *width);
         }
+    }
+
+    /// A group in a second arm goes by what waits, which the crate has lost: (Union(ab + Hardline, Group(FlatAlt(c, d))) + e),
+    /// and the same with Hardline, e and fg after it.
+    fn by_hand() -> [(Table, u32); 2] {
+        let mut table = Table::default();
+        table.push_text(b"ab", 2);
+        table.push(HARDLINE, 0, 0, 0);
+        table.push(APPEND, 0, 1, 0);
+        table.push_text(b"c", 1);
+        table.push_text(b"d", 1);
+        table.push(FLAT_ALT, 3, 4, 0);
+        table.push(GROUP, 5, 0, 0);
+        let trial = table.push(UNION, 2, 6, 0);
+        let mut longer = table.clone();
+        table.push_text(b"e", 1);
+        table.push(APPEND, trial, 8, 0);
+        longer.push(APPEND, trial, 1, 0);
+        longer.push_text(b"e", 1);
+        longer.push(APPEND, 8, 9, 0);
+        longer.push_text(b"fg", 2);
+        longer.push(APPEND, 10, 11, 0);
+        [(table, 1), (longer, 1)]
     }
 
     fn weight((table, width): &(Table, u32)) -> ((usize, u32), u32) {
