@@ -2,6 +2,7 @@
 
 use crate::make::Make;
 use crate::model::{kind::*, Event};
+use crate::tables::Table;
 use pretty::{Affixes, Arena, BlockDoc, Doc, DocAllocator, DocBuilder, RefDoc, Render, RenderAnnotated};
 
 /// What the crate wrote before it ended, and whether it failed.
@@ -130,5 +131,41 @@ pub fn make<'a>(arena: &'a Arena<'a, u32>, made: &[Built<'a>], make: &Make) -> B
             });
             BlockDoc { affixes: affixes.collect(), body: at(body) }.format(by(amount, way))
         }
+    }
+}
+
+/// Whether the crate's document and what a node unfolds to are the same node by node. The crate's `align` is looked into by
+/// asking it for its document at a column that is the indentation.
+pub fn same_nodes<'a>(document: &Doc<'a, RefDoc<'a, u32>, u32>, table: &Table, n: usize) -> bool {
+    let node = &table.words[4 * n..4 * n + 4];
+    let child = |document: &RefDoc<'a, u32>, word: usize| same_nodes(document, table, node[word] as usize);
+    let text = |s: &str, columns: usize| {
+        node[0] == TEXT && table.text[node[1] as usize..][..node[2] as usize] == *s.as_bytes() && node[3] as usize == columns
+    };
+    match document {
+        Doc::Nil => node[0] == NIL,
+        Doc::Append(a, b) => node[0] == APPEND && child(a, 1) && child(b, 2),
+        Doc::Group(a) => node[0] == GROUP && child(a, 1),
+        Doc::FlatAlt(a, b) => node[0] == FLAT_ALT && child(a, 1) && child(b, 2),
+        Doc::Nest(by, a) => {
+            let amount = if node[3] == 0 { node[2] as isize } else { -(node[2] as isize) };
+            node[0] == NEST && *by == amount && child(a, 1)
+        }
+        Doc::Hardline => node[0] == HARDLINE,
+        Doc::RenderLen(columns, inner) => match &**inner {
+            Doc::OwnedText(s) => text(s, *columns),
+            Doc::BorrowedText(s) => text(s, *columns),
+            _ => false,
+        },
+        Doc::OwnedText(s) => text(s, s.len()),
+        Doc::BorrowedText(s) => text(s, s.len()),
+        Doc::Annotated(label, a) => node[0] == ANNOTATED && *label == node[2] && child(a, 1),
+        Doc::Union(a, b) => node[0] == UNION && child(a, 1) && child(b, 2),
+        Doc::Column(at_column) => {
+            let Doc::Nesting(at_indentation) = &*at_column(7) else { return false };
+            node[0] == ALIGN && child(&at_indentation(7), 1)
+        }
+        Doc::Fail => node[0] == FAIL,
+        Doc::Nesting(_) | Doc::SmallText(_) => false,
     }
 }

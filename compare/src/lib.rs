@@ -1,6 +1,7 @@
 //! Document 01, crate pretty 0.12.5 and our static library beside each other. README.md says what each program does.
 
 pub mod calls;
+pub mod known;
 pub mod loads;
 pub mod make;
 pub mod model;

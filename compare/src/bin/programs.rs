@@ -1,7 +1,7 @@
 //! programs [count=N] [seed=S]: the same random program of constructor calls for document 01's constructors and for the
-//! crate's, and what both lay out of every node made, at two widths.
+//! crate's: every node made is compared with the crate's document node by node, and by what both lay out at two widths.
 //!
-//! Ends with status 1 if a clean run's bytes differ, or a marks-clean run's events do.
+//! Ends with status 1 if a document has other nodes, a clean run's bytes differ, or a marks-clean run's events do.
 
 use compare::calls::Call;
 use compare::make::{Builder, Make};
@@ -37,6 +37,7 @@ fn main() {
     }
     println!("programs {count}, seed {seed}, calls {}, of them blocks with affixes {}", tally.calls, tally.blocks);
     println!("stopped for room {}, nodes in all {}, most {}", tally.stopped, tally.nodes, tally.most);
+    println!("documents compared node by node {}", tally.node_by_node);
     println!("layouts compared {}, left out {}", tally.compared, tally.left_out);
     println!("  clean {}, marks clean {}", tally.clean, tally.marks_clean);
     println!("DIFFERENT where they must not: {}", tally.wrong);
@@ -52,6 +53,7 @@ struct Tally {
     blocks: u64,
     stopped: u64,
     nodes: u64,
+    node_by_node: u64,
     most: usize,
     compared: u64,
     left_out: u64,
@@ -95,6 +97,14 @@ impl Tally {
         for ((node, document), make) in nodes.iter().zip(&made).zip(program) {
             let words = builder.used.words[..4 * (*node as usize + 1)].to_vec();
             let table = Table { words, text: builder.used.text.clone() };
+            // the crate has several Texts where it indents by more than 100
+            if table.unfolded() < 5_000 && !program.iter().any(|make| matches!(make, Make::Indent(_, amount) if *amount > 100)) {
+                self.node_by_node += 1;
+                if !compare::beside::same_nodes(document, &table, *node as usize) {
+                    self.wrong += 1;
+                    println!("OTHER NODES for {make:?}, program {program:?}\n  table {}", table.written());
+                }
+            }
             for width in widths {
                 let call = Call::roomy(table.clone(), width);
                 let run = call.run();
