@@ -1,13 +1,16 @@
--- Documents, and the laws of demand 3.
+-- The laws of demand 3: what each says of documents, when two documents differ by one at one place, and what is claimed of two calls.
 -- Assumes nothing.
 use Prim.Native.Nat.{ℕ, _+_}
-use mathlib.Core.List.{List}
 use mathlib.Core.Path.{_≡_}
-use Rattle.rules.specs.Layout.{Report}
 use Rattle.table.specs.Node.{Way}
-use Rattle.table.specs.Document.{Doc, nil, append, group, flatAlt, nest, annotated, union, align, fail}
+use Rattle.table.specs.Accepted.{Accepted}
+use Rattle.table.specs.Unfold.{tree, root}
+use Rattle.table.specs.Document.{Doc, nil, append, group, flatAlt, nest, annotated, union, align, fail, doc}
+use Rattle.rules.specs.Layout.{Report}
+use Rattle.rules.specs.Call.{Given}
 
--- the listed laws
+-- The listed laws: joins regroup; Nil drops from the left of a join; group in group; group and nest change places; two nests the same way add;
+-- nest over align; align twice; unions regroup; Fail drops from a union's first arm; union of twins; flat choice of twins.
 pub data Law : Doc → Doc → Type 0 where
   joins-regroup : (a b c : Doc) → Law (append (append a b) c) (append a (append b c))
   nil-drops : (a : Doc) → Law (append nil a) a
@@ -21,7 +24,7 @@ pub data Law : Doc → Doc → Type 0 where
   union-twins : (a : Doc) → Law (union a a) a
   flatAlt-twins : (a : Doc) → Law (flatAlt a a) a
 
--- two documents that differ at one place, by R there
+-- two documents that differ at one place, and there by R
 pub data Within (R : Doc → Doc → Type 0) : Doc → Doc → Type 0 where
   here : {d e : Doc} → R d e → Within R d e
   in-append-first : {d e : Doc} (b : Doc) → Within R d e → Within R (append d b) (append e b)
@@ -35,17 +38,33 @@ pub data Within (R : Doc → Doc → Type 0) : Doc → Doc → Type 0 where
   in-union-second : {d e : Doc} (a : Doc) → Within R d e → Within R (union a d) (union a e)
   in-align : {d e : Doc} → Within R d e → Within R (align d) (align e)
 
+-- either way round
+pub data EitherWay (R : Doc → Doc → Type 0) : Doc → Doc → Type 0 where
+  forth : {d e : Doc} → R d e → EitherWay R d e
+  back : {d e : Doc} → R e d → EitherWay R d e
+
 -- two documents that differ by one listed law at one place
 abbrev pub Differ : Doc → Doc → Type 0
-Differ d e = Within Law d e
+Differ d e = EitherWay (Within Law) d e
 
--- not refused for steps or room
+-- ---- two calls
+
+-- what the table of a call unfolds to
+abbrev pub document : Given → Doc
+document g = doc (tree (g .table) (g .text) (root (g .table)))
+
+-- its table, with its text, is valid
+abbrev pub ValidTable : Given → Type 0
+ValidTable g = Accepted (g .table) (g .text)
+
+-- not refused for sizes, steps or room
 pub record Unrefused (r : Report) : Type 0 where
+  pub for-sizes : r .answer ≡ 1 → ⊥
   pub for-steps : r .answer ≡ 7 → ⊥
   pub for-bytes : r .answer ≡ 8 → ⊥
   pub for-events : r .answer ≡ 9 → ⊥
 
--- the same answer, bytes and events
+-- the same answer, and the same bytes and events (both have none on a refusal)
 pub record Alike (r s : Report) : Type 0 where
   pub answers : r .answer ≡ s .answer
   pub bytes : r .bytes ≡ s .bytes

@@ -45,6 +45,10 @@ columnsRight bytes c = pick (ascii bytes) (eqb c (length bytes)) (wellFormed byt
 abbrev pub textRight : List ℕ → ℕ → ℕ → ℕ → ℕ → Bool
 textRight text k a b c = not (eqb k 6) || columnsRight (take b (drop a text)) c
 
+-- the same for a Text alone: 0, or the first of 4, 5
+abbrev pub textFault : List ℕ → ℕ → ℕ → ℕ → ℕ
+textFault text a b c = pick (leb (a + b) (length text)) (pick (columnsRight (take b (drop a text)) c) 0 5) 4
+
 -- 0, or the first of 2, 3, 4, 5
 unfoldable pub faultOf : List ℕ → ℕ → ℕ → ℕ → ℕ → ℕ → ℕ
 faultOf text n k a b c =

@@ -3,7 +3,9 @@ pub mod Pick
 pub mod Kinds
 pub mod Node
 pub mod Utf8
+pub mod Owing
 pub mod Fault
 pub mod Unfold
 pub mod Document
 pub mod Valid
+pub mod Accepted

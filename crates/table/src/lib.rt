@@ -1,9 +1,74 @@
-// The node table: its kinds, its numbers, and its validation.
+// The node table: its kinds, its numbers, and its validation with answers 1 to 5.
+// No public function has a `requires`. Each promise is an equation with a definition of specs/, so one answer and one place are
+// possible for each table and text, and two outcomes that a promise allows are equal.
+ghost use mathlib.Core.Path.{_≡_};
+ghost use Prim.Native.Nat.{_/_, _≤_, _<_};
+ghost use lib.ListN.{length};
+ghost use Rattle.table.specs.Kinds.{kinds, kindAt};
+ghost use Rattle.table.specs.Utf8.{wellFormed, ascii, start};
+ghost use Rattle.table.specs.Owing.{starts, GoesOn};
+ghost use Rattle.table.specs.Fault.{unusedZero, childrenBelow, nestInRange, columnsRight, faultOf, textFault, firstFault, sizesRight, check};
 
 // How many children a kind has, and how many words it uses. Children and used words come first among a, b, c.
 pub struct KindInfo {
     pub children: u32,
     pub words: u32,
+}
+
+// For each kind how many children it has and which words it uses: read by validation and by the file writer.
+// Nil, Append, Group, FlatAlt, Nest, Hardline, Text, Annotated, Union, Align, Fail.
+const KINDS: [KindInfo; 11] = [
+    KindInfo {
+        children: 0,
+        words: 0,
+    },
+    KindInfo {
+        children: 2,
+        words: 2,
+    },
+    KindInfo {
+        children: 1,
+        words: 1,
+    },
+    KindInfo {
+        children: 2,
+        words: 2,
+    },
+    KindInfo {
+        children: 1,
+        words: 3,
+    },
+    KindInfo {
+        children: 0,
+        words: 0,
+    },
+    KindInfo {
+        children: 0,
+        words: 3,
+    },
+    KindInfo {
+        children: 1,
+        words: 2,
+    },
+    KindInfo {
+        children: 2,
+        words: 2,
+    },
+    KindInfo {
+        children: 1,
+        words: 1,
+    },
+    KindInfo {
+        children: 0,
+        words: 0,
+    },
+];
+
+// The whole table. A reader takes it once, before its loop: a constant array is built anew at every read.
+pub fn all_kinds() -> [KindInfo; 11]
+    ensures { λ r. ⌜ r ≡ kinds ⌝ }
+{
+    KINDS
 }
 
 // A column of the sheet.
@@ -14,3 +79,310 @@ pub struct Indent(pub u32);
 
 // A node's number.
 pub struct NodeNo(pub u32);
+
+impl Column {
+    // Align sets the indentation to the column: the one change of the one into the other.
+    pub fn to_indent(self) -> Indent
+        ensures { λ r. ⌜ r .0 ≡ self .0 ⌝ }
+    {
+        Indent(self.0)
+    }
+}
+
+// The first fault, and the node it is at; 0 and 0 for none.
+pub struct Fault {
+    pub answer: u32,
+    pub place: NodeNo,
+}
+
+// ---- text bytes
+
+// Whether all bytes are below 128. It reads to the end, so that it goes by whole blocks.
+fn below_128(bytes: &[u8]) -> bool
+    ensures { λ r. ⌜ r ≡ ascii (now (bytes .entry)) ⌝ }
+{
+    let mut low = true;
+    let mut i = 0;
+    while i < bytes.len() {
+        low = low & (bytes[i] < 128);
+        i += 1;
+    }
+    low
+}
+
+// What a character still owes: so many octets, the next between low and high, the others UTF8-tails.
+struct Owing {
+    count: u32,
+    low: u8,
+    high: u8,
+}
+
+// After an octet: what is owed, or that the octet can't stand there.
+enum Next {
+    Owes(Owing),
+    Wrong,
+}
+
+// What a first octet owes, by RFC 3629, section 4.
+fn start_of(b: u8) -> Next
+    ensures { λ r. ⌜ starts r ≡ start b ⌝ }
+{
+    if b <= 0x7F {
+        return Next::Owes(Owing {
+            count: 0,
+            low: 0x80,
+            high: 0xBF,
+        });
+    }
+    if b < 0xC2 {
+        return Next::Wrong;
+    }
+    if b <= 0xDF {
+        return Next::Owes(Owing {
+            count: 1,
+            low: 0x80,
+            high: 0xBF,
+        });
+    }
+    if b <= 0xE0 {
+        return Next::Owes(Owing {
+            count: 2,
+            low: 0xA0,
+            high: 0xBF,
+        });
+    }
+    if b <= 0xEC {
+        return Next::Owes(Owing {
+            count: 2,
+            low: 0x80,
+            high: 0xBF,
+        });
+    }
+    if b <= 0xED {
+        return Next::Owes(Owing {
+            count: 2,
+            low: 0x80,
+            high: 0x9F,
+        });
+    }
+    if b <= 0xEF {
+        return Next::Owes(Owing {
+            count: 2,
+            low: 0x80,
+            high: 0xBF,
+        });
+    }
+    if b <= 0xF0 {
+        return Next::Owes(Owing {
+            count: 3,
+            low: 0x90,
+            high: 0xBF,
+        });
+    }
+    if b <= 0xF3 {
+        return Next::Owes(Owing {
+            count: 3,
+            low: 0x80,
+            high: 0xBF,
+        });
+    }
+    if b <= 0xF4 {
+        return Next::Owes(Owing {
+            count: 3,
+            low: 0x80,
+            high: 0x8F,
+        });
+    }
+    Next::Wrong
+}
+
+// One octet.
+fn octet(o: Owing, b: u8) -> Next
+    ensures { λ r. ⌜ GoesOn o b r ⌝ }
+{
+    if o.count == 0 {
+        return start_of(b);
+    }
+    if b < o.low {
+        return Next::Wrong;
+    }
+    if o.high < b {
+        return Next::Wrong;
+    }
+    Next::Owes(Owing {
+        count: o.count - 1,
+        low: 0x80,
+        high: 0xBF,
+    })
+}
+
+// Whether the bytes are well-formed UTF-8 by RFC 3629.
+fn well_formed(bytes: &[u8]) -> bool
+    ensures { λ r. ⌜ r ≡ wellFormed (now (bytes .entry)) ⌝ }
+{
+    let mut o = Owing {
+        count: 0,
+        low: 0x80,
+        high: 0xBF,
+    };
+    let mut i = 0;
+    while i < bytes.len() {
+        let next = octet(o, bytes[i]);
+        let Next::Owes(p) = next else {
+            return false;
+        };
+        o = p;
+        i += 1;
+    }
+    o.count == 0
+}
+
+// Whether the columns of a Text with these bytes are right, and the bytes well-formed.
+fn columns_right(bytes: &[u8], c: u32) -> bool
+    ensures { λ r. ⌜ r ≡ columnsRight (now (bytes .entry)) c ⌝ }
+{
+    let columns = c as usize;
+    if below_128(bytes) {
+        return columns == bytes.len();
+    }
+    if well_formed(bytes) {
+        return columns <= bytes.len();
+    }
+    false
+}
+
+// ---- one node
+
+fn unused_zero(words: u32, a: u32, b: u32, c: u32) -> bool
+    ensures { λ r. ⌜ r ≡ unusedZero words a b c ⌝ }
+{
+    ((1 <= words) | (a == 0)) & ((2 <= words) | (b == 0)) & ((3 <= words) | (c == 0))
+}
+
+fn children_below(n: u32, children: u32, a: u32, b: u32) -> bool
+    ensures { λ r. ⌜ r ≡ childrenBelow n children a b ⌝ }
+{
+    ((children <= 0) | (a < n)) & ((children <= 1) | (b < n))
+}
+
+fn nest_in_range(k: u32, b: u32, c: u32) -> bool
+    ensures { λ r. ⌜ r ≡ nestInRange k b c ⌝ }
+{
+    (k != 4) | ((b <= 1000) & (c <= 1))
+}
+
+// A Text's range, then its bytes and columns. Where all of the text is below 128, so is every part of it.
+fn text_fault(text: &[u8], plain: bool, a: u32, b: u32, c: u32) -> u32
+    requires { ⌜ plain ≡ ascii (now text) ⌝ }
+    ensures { λ r. ⌜ r ≡ textFault (now (text .entry)) a b c ⌝ }
+{
+    let at = a as usize;
+    let end = at + (b as usize);
+    if text.len() < end {
+        return 4;
+    }
+    if plain {
+        if c == b {
+            return 0;
+        }
+        return 5;
+    }
+    if columns_right(&text[at..end], c) {
+        0
+    } else {
+        5
+    }
+}
+
+// 0, or the first of 2, 3, 4, 5.
+fn node_fault(
+    text: &[u8],
+    plain: bool,
+    info: KindInfo,
+    n: u32,
+    k: u32,
+    a: u32,
+    b: u32,
+    c: u32,
+) -> u32
+    requires { ⌜ (plain ≡ ascii (now text)) × (k < 11) × (info ≡ kindAt k) ⌝ }
+    ensures { λ r. ⌜ r ≡ faultOf (now (text .entry)) n k a b c ⌝ }
+{
+    if !unused_zero(info.words, a, b, c) {
+        return 2;
+    }
+    if !children_below(n, info.children, a, b) {
+        return 3;
+    }
+    if !nest_in_range(k, b, c) {
+        return 3;
+    }
+    if k != 6 {
+        return 0;
+    }
+    text_fault(text, plain, a, b, c)
+}
+
+// ---- the whole table
+
+// The first fault of the nodes from 0 up, unreachable ones too.
+fn first_fault(table: &[u32], text: &[u8], plain: bool) -> Fault
+    requires { ⌜ (plain ≡ ascii (now text)) × (length (now table) ≤ 4096) ⌝ }
+    ensures { λ r. ⌜ (r .answer ≡ firstFault (now (table .entry)) (now (text .entry)) (length (now (table .entry)) / 4) .answer) × (r .place .0 ≡ firstFault (now (table .entry)) (now (text .entry)) (length (now (table .entry)) / 4) .place) ⌝ }
+{
+    let kinds = KINDS;
+    let nodes = table.len() / 4;
+    let mut n = 0;
+    while n < nodes {
+        let at = n * 4;
+        let place = n as u32;
+        let k = table[at];
+        if 11 <= k {
+            return Fault {
+                answer: 2,
+                place: NodeNo(place),
+            };
+        }
+        let info = kinds[k as usize];
+        let answer = node_fault(
+            text,
+            plain,
+            info,
+            place,
+            k,
+            table[at + 1],
+            table[at + 2],
+            table[at + 3],
+        );
+        if answer != 0 {
+            return Fault {
+                answer,
+                place: NodeNo(place),
+            };
+        }
+        n += 1;
+    }
+    Fault {
+        answer: 0,
+        place: NodeNo(0),
+    }
+}
+
+fn sizes_right(words: usize, bytes: usize) -> bool
+    ensures { λ r. ⌜ r ≡ sizesRight words bytes ⌝ }
+{
+    (words != 0) & (words % 4 == 0) & (words <= 4096) & (bytes <= 65536)
+}
+
+// Answers 1 to 5 with the place, in document 01's order; 0 for a valid table.
+pub fn validate(table: &[u32], text: &[u8]) -> Fault
+    ensures { λ r. ⌜ (r .answer ≡ check (now (table .entry)) (now (text .entry)) .answer) × (r .place .0 ≡ check (now (table .entry)) (now (text .entry)) .place) ⌝ }
+{
+    if !sizes_right(table.len(), text.len()) {
+        return Fault {
+            answer: 1,
+            place: NodeNo(0),
+        };
+    }
+    first_fault(table, text, below_128(text))
+}

@@ -1,0 +1,2 @@
+-- The laws of a run of stores.
+pub mod Put

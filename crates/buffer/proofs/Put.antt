@@ -1,0 +1,99 @@
+-- The laws of `put`, over any element. n is the length of what is put, as its user has it.
+--     put-none, put-more               nothing put; one more element stored behind what is put
+--     length-put                       the length is kept
+--     take-put, drop-put, front-put    the front up to the end of what is put, the rest behind it, the front before it
+--     fill-more, fill-up, fill-end     a run of one value: a store more, and the run up to the end
+--     copy-more                        a part of another list: a store more
+--     put-one, put-put, put-cons       a single store; a run put behind a run, and behind a single store
+-- Assumes nothing.
+use mathlib.Core.Path.{_≡_, refl, sym, ap, ap₂, _∙_}
+use mathlib.Core.List.{List, [], _∷_, _++_, append-assoc, append-nil}
+use Prim.Native.Nat.{ℕ, zero, suc, _+_, _-_, _≤_, _<_}
+use native.Mathlib.Numerals.{add-one}
+use native.Mathlib.Omega.{arith}
+use lib.ListN.{length, take, drop, set, replicate, getD, length-take, length-append, length-replicate, length-drop, take-append-drop, replicate-append-replicate, drop-of-length-le}
+use lib.Seq.{drop-cons, take-suc, take-at, drop-at, set-at, append-snoc, getD-drop, drop-drop, length-take-le}
+use Rattle.buffer.specs.Run.{put}
+
+module _ {A : Type 0} (d : List A) (at : ℕ) where
+  pub put-none : put d at [] ≡ d
+  unfolding put
+  put-none = let z : at + 0 ≡ at = omega arith in rw (append-nil, z) (take-append-drop at d)
+
+  -- what is put, with the front before it
+  head-length : (s : List A) → at ≤ length d → length (take at d ++ s) ≡ at + length s
+  head-length s h = simp (length-append, length-take) (omega arith)
+
+  pub put-more : (s : List A) (n : ℕ) (v : A) → length s ≡ n → at + n < length d → set (put d at s) (at + n) v ≡ put d at (s ++ (v ∷ []))
+  unfolding put
+  put-more s n v e h =
+      let m = at + n in
+      let p = take at d ++ s in
+      let last : suc m ≡ at + length (s ++ (v ∷ [])) = simp length-append (omega arith) in
+      ap (λ (k : ℕ). set (p ++ drop (at + k) d) m v) e
+      ∙ ap (λ (r : List A). set (p ++ r) m v) (drop-cons d m v h)
+      ∙ set-at p (getD d m v) (drop (suc m) d) v m (head-length s (omega arith) ∙ ap (λ (k : ℕ). at + k) e)
+      ∙ sym (append-snoc p v (drop (suc m) d))
+      ∙ ap₂ (λ (x : List A) (k : ℕ). x ++ drop k d) (append-assoc (take at d) s (v ∷ [])) last
+
+  pub length-put : (s : List A) (n : ℕ) → length s ≡ n → at + n ≤ length d → length (put d at s) ≡ length d
+  unfolding put
+  length-put s n e h = simp (length-append, length-take, length-drop) (omega arith)
+
+  pub take-put : (s : List A) (n : ℕ) → length s ≡ n → at + n ≤ length d → take (at + n) (put d at s) ≡ take at d ++ s
+  unfolding put
+  take-put s n e h = take-at (take at d ++ s) _ (at + n) (head-length s (omega arith) ∙ ap (λ (k : ℕ). at + k) e)
+
+  pub drop-put : (s : List A) (n : ℕ) → length s ≡ n → at + n ≤ length d → drop (at + n) (put d at s) ≡ drop (at + n) d
+  unfolding put
+  drop-put s n e h = rw e (drop-at (take at d ++ s) _ (at + n) (head-length s (omega arith) ∙ ap (λ (k : ℕ). at + k) e))
+
+  pub front-put : (s : List A) → at ≤ length d → take at (put d at s) ≡ take at d
+  unfolding put
+  front-put s h = rw append-assoc (take-at (take at d) _ at (length-take-le at d h))
+
+  -- ---- what the loops store
+
+  pub fill-more : (v : A) (i : ℕ) → at + i < length d → set (put d at (replicate i v)) (at + i) v ≡ put d at (replicate (i + 1) v)
+  fill-more v i h = put-more (replicate i v) i v (length-replicate i v) h ∙ ap (put d at) (replicate-append-replicate i 1 v)
+
+  -- the same, counted from the buffer's start
+  pub fill-up : (v : A) (i : ℕ) → at ≤ i → i < length d → set (put d at (replicate (i - at) v)) i v ≡ put d at (replicate (i + 1 - at) v)
+  fill-up v i le h =
+      let here : i ≡ at + (i - at) = omega arith in
+      let next : i - at + 1 ≡ i + 1 - at = omega arith in
+      ap (λ (k : ℕ). set (put d at (replicate (i - at) v)) k v) here ∙ fill-more v (i - at) (omega arith) ∙ ap (λ (k : ℕ). put d at (replicate k v)) next
+
+  pub fill-end : (v : A) → put d at (replicate (length d - at) v) ≡ take at d ++ replicate (length d - at) v
+  unfolding put
+  fill-end v =
+      let past : length d ≤ at + (length d - at) = omega arith in
+      rw (length-replicate, drop-of-length-le d past, append-nil)
+
+  pub copy-more : (s : List A) (from : ℕ) (z : A) (i : ℕ) → at + i < length d → from + i < length s → set (put d at (take i (drop from s))) (at + i) (getD s (from + i) z) ≡ put d at (take (i + 1) (drop from s))
+  copy-more s from z i h k =
+      let l : List A = drop from s in
+      let in-l : i < length l = simp length-drop (omega arith) in
+      let e : take i l ++ (getD s (from + i) z ∷ []) ≡ take (i + 1) l =
+      ap (λ (x : A). take i l ++ (x ∷ [])) (sym (getD-drop from s i z)) ∙ sym (take-suc l i z in-l) ∙ ap (λ (m : ℕ). take m l) (sym (add-one i)) in
+      put-more (take i l) i (getD s (from + i) z) (length-take-le i l (omega arith)) h ∙ ap (put d at) e
+
+  -- ---- runs behind each other
+
+  pub put-one : (v : A) → at < length d → set d at v ≡ put d at (v ∷ [])
+  put-one v h =
+      let z : at ≡ at + 0 = omega arith in
+      ap₂ (λ (x : List A) (k : ℕ). set x k v) (sym put-none) z ∙ put-more [] 0 v refl (omega arith)
+
+  pub put-put : (s t : List A) (n : ℕ) → length s ≡ n → at + n ≤ length d → put (put d at s) (at + n) t ≡ put d at (s ++ t)
+  unfolding put
+  put-put s t n e h =
+      let m = at + n in
+      let k = length t in
+      let last : m + k ≡ at + length (s ++ t) = simp length-append (omega arith) in
+      let rest : drop (m + k) (put d at s) ≡ drop (m + k) d = sym (drop-drop k m (put d at s)) ∙ ap (drop k) (drop-put s n e h) ∙ drop-drop k m d in
+      ap₂ (λ (x y : List A). x ++ t ++ y) (take-put s n e h) rest
+      ∙ ap₂ (λ (x : List A) (j : ℕ). x ++ drop j d) (append-assoc (take at d) s t) last
+
+  pub put-cons : (v : A) (t : List A) → at < length d → put (set d at v) (at + 1) t ≡ put d at (v ∷ t)
+  put-cons v t h = ap (λ (x : List A). put x (at + 1) t) (put-one v h) ∙ put-put (v ∷ []) t 1 refl (omega arith)

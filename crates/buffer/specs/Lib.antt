@@ -1,0 +1,2 @@
+-- What a run of stores leaves of a buffer.
+pub mod Run

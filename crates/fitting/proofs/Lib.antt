@@ -1,0 +1,4 @@
+-- Laws of the fit test's code.
+pub mod Nodes
+mod Arms
+mod Walk

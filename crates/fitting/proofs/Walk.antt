@@ -1,0 +1,197 @@
+-- What the fit test's two walks keep, and how each step keeps it.
+-- Assumes nothing.
+use mathlib.Core.Path.{_≡_, refl, sym, ap, _∙_, subst}
+use Prim.Native.Nat.{ℕ, suc, zero, _+_, _-_, _*_, _≤_, _<_}
+use mathlib.Core.List.{List, [], _∷_, _++_, append-nil}
+use native.Mathlib.Omega.{arith}
+use lib.ListN.{getD, length}
+use Rattle.table.specs.Node.{nodeAt}
+use Rattle.table.specs.Valid.{Sound, Valid}
+use Rattle.rules.specs.Layout.{flat, broken}
+use Rattle.machine.specs.Waiting.{Entry, node}
+use Rattle.machine.specs.Fit.{Item, item, Verdict, fits, wide, due, Walked, walk, say, look, fit, reread}
+use Rattle.machine.specs.Well.{Nodes, FitStacked}
+use Rattle.machine.proofs.Kept.{FitNext, walked-next}
+use Rattle.waiting.specs.Stack.{modeOf, stackOf, itemsOf, Same, Nearest, entryAt}
+use Rattle.waiting.proofs.Laws.{same-refl, same-trans, same-less, stack-same, stack-top, length-items, from-reread, from-nodes}
+use Rattle.fitting.specs.Fitting.{Stepped, stepped, Fitting, Fitted, verdictOf}
+use Rattle.fitting.specs.declared.Step.{Step}
+use Rattle.fitting.specs.declared.Step.the-variants.{Down, Done, Fits, Wide}
+use Rattle.fitting.specs.declared.Fit.{Fit}
+use Rattle.table.specs.declared.NodeNo.{NodeNo}
+use Rattle.table.specs.declared.Column.{Column}
+
+-- with nothing left to walk the fit test says yes
+fit-nil : (T : List ℕ) (W left c : ℕ) → fit T W left [] c ≡ fits left
+unfolding fit
+fit-nil T W zero c = refl
+fit-nil T W (suc left) c = refl
+
+-- a node in hand and k more of its mode
+abbrev pub hand : List ℕ → ℕ → ℕ → ℕ → List Item
+hand w n m k = item n (modeOf m) ∷ itemsOf m k w
+
+module _ (T : List ℕ) (W x d c left : ℕ) where
+  -- what the whole fit test says, over the work area w
+  abbrev whole : List ℕ → Verdict
+  whole w = fit T W left (item x flat ∷ reread (stackOf d w)) c
+
+  -- w₀, w: the work area where the loop began and now; the nodes `is` are to be walked, then those of the first a entries; a column; steps left
+  pub record Walking (w₀ w : List ℕ) (is : List Item) (a col s : ℕ) : Type 0 where
+    pub N : ℕ
+    pub valid : Valid T 65536 N
+    pub words : N * 4 ≤ length T
+    pub small : N ≤ 1024
+    pub width : W ≤ 65536
+    pub area : 16384 ≤ length w
+    pub deep : d ≤ 1024
+    pub at : a ≤ d
+    pub same : Same 1024 w₀ w
+    pub long : length w ≡ length w₀
+    pub nodes : Nodes N (stackOf a w)
+    pub stack : FitStacked N is
+    pub column : col ≤ 65536
+    pub said : fit T W s (is ++ reread (stackOf a w)) col ≡ whole w
+
+  pub walk-start : (w : List ℕ) → Fitting T w W x d c → Walking w w (hand w x 1 0) d c left
+  walk-start w f =
+      record {
+        N = f .N;
+        valid = f .valid;
+        words = f .words;
+        small = f .small;
+        width = f .width;
+        area = f .area;
+        deep = f .deep;
+        at = omega arith;
+        same = same-refl 1024 w;
+        long = refl;
+        nodes = f .nodes;
+        stack = (omega (arith, f .child), tt);
+        column = f .column;
+        said = refl;
+      }
+
+  fit-length : (N : ℕ) (is : List Item) → FitStacked N is → length is ≤ N
+  fit-length N [] h = omega arith
+  fit-length N (item n m ∷ is) h = omega (arith, h .0)
+
+  -- ---- a node in hand
+  module _ (w₀ w : List ℕ) (n m k a col S : ℕ) (h : Walking w₀ w (hand w n m k) a col S) where
+    node-in : n < h .N
+    node-in = omega (arith, h .stack .0)
+
+    pub node-sound : Sound 65536 n (nodeAt T n)
+    node-sound = h .valid n node-in
+
+    pub node-words : n * 4 + 4 ≤ length T
+    node-words = omega (arith, node-in, h .words)
+
+    pub count-small : k ≤ 1023
+    count-small = omega (arith, fit-length (h .N) (hand w n m k) (h .stack), length-items m k w, h .small)
+
+    pub walk-due : S ≡ 0 → due n ≡ whole w
+    unfolding fit
+    walk-due e = rw e at (h .said)
+
+    -- where a step is left
+    module _ (some : S ≡ 0 → ⊥) where
+      left′ : S ≡ suc (S - 1)
+      left′ = omega arith
+
+      -- what the fit test says is what it says after the visit
+      after : (v : Walked) → v ≡ look W (nodeAt T n) (modeOf m) (itemsOf m k w ++ reread (stackOf a w)) col (S - 1) → elim v [ walk is c′ ↦ fit T W (S - 1) is c′ | say v′ ↦ v′ ] ≡ whole w
+      unfolding fit
+      after v e = rw e (rw left′ at (h .said))
+
+      -- the visit keeps the height
+      next : FitNext (h .N) (look W (nodeAt T n) (modeOf m) (itemsOf m k w) col (S - 1))
+      next = walked-next (h .N) W 65536 n (nodeAt T n) (modeOf m) (itemsOf m k w) col (S - 1) (h .width) (h .column) node-sound (h .stack)
+
+      module _ (w′ : List ℕ) (r : Step) (p : Stepped T W n m k col w r w′) (e : length w′ ≡ length w) where
+        kept-stack : (j : ℕ) → j ≤ d → stackOf j w′ ≡ stackOf j w
+        kept-stack j le = stack-same j w w′ (same-less j 1024 w w′ (omega (arith, h .deep)) (p .same))
+
+        -- on to the nodes is′ at column c′
+        walk-on : (is′ : List Item) (c′ : ℕ) → stepped r m k col w′ [] (S - 1) ≡ walk (is′ ++ []) c′ → stepped r m k col w′ (reread (stackOf a w)) (S - 1) ≡ walk (is′ ++ reread (stackOf a w)) c′ → Walking w₀ w′ is′ a c′ (S - 1)
+        walk-on is′ c′ alone all =
+            let f : FitNext (h .N) (walk is′ c′) =
+            subst (λ (l : List Item). FitNext (h .N) (walk l c′)) (append-nil is′) (subst (λ (v : Walked). FitNext (h .N) v) (sym (p .said [] (S - 1)) ∙ alone) (rw append-nil next)) in
+            record {
+              N = h .N;
+              valid = h .valid;
+              words = h .words;
+              small = h .small;
+              width = h .width;
+              area = omega (arith, h .area);
+              deep = h .deep;
+              at = h .at;
+              same = same-trans 1024 w₀ w w′ (h .same) (p .same);
+              long = e ∙ h .long;
+              nodes = rw (kept-stack a (h .at)) (h .nodes);
+              stack = f .0;
+              column = f .1;
+              said = rw (kept-stack d (omega arith), kept-stack a (h .at)) (after (walk (is′ ++ reread (stackOf a w)) c′) (sym all ∙ p .said (reread (stackOf a w)) (S - 1)));
+            }
+
+        pub walk-down : (n′ : NodeNo) (k′ : ℕ) → r ≡ Down n′ k′ → Walking w₀ w′ (hand w′ (n′ .0) m k′) a col (S - 1)
+        walk-down n′ k′ er = walk-on (hand w′ (n′ .0) m k′) col (rw er) (rw er)
+
+        pub walk-done : (c′ : Column) → r ≡ Done c′ → Walking w₀ w′ (itemsOf m k w′) a (c′ .0) (S - 1)
+        walk-done c′ er = walk-on (itemsOf m k w′) (c′ .0) (rw er) (rw er)
+
+        pub walk-same : Same 1024 w₀ w′
+        walk-same = same-trans 1024 w₀ w w′ (h .same) (p .same)
+
+        pub walk-yes : r ≡ Fits → fits (S - 1) ≡ whole w′
+        walk-yes er = rw (kept-stack d (omega arith)) (after (say (fits (S - 1))) (sym (ap (λ (v : Step). stepped v m k col w′ (reread (stackOf a w)) (S - 1)) er) ∙ p .said (reread (stackOf a w)) (S - 1)))
+
+        pub walk-no : r ≡ Wide → wide (S - 1) ≡ whole w′
+        walk-no er = rw (kept-stack d (omega arith)) (after (say (wide (S - 1))) (sym (ap (λ (v : Step). stepped v m k col w′ (reread (stackOf a w)) (S - 1)) er) ∙ p .said (reread (stackOf a w)) (S - 1)))
+
+  -- ---- a node is done
+
+  -- the next of its mode
+  pub walk-pop : (w₀ w : List ℕ) (m k a col s : ℕ) → (k ≡ 0 → ⊥) → Walking w₀ w (itemsOf m k w) a col s → Walking w₀ w (hand w (getD w (8192 + (k - 1)) 0) m (k - 1)) a col s
+  walk-pop w₀ w m k a col s ne h =
+      let e : k ≡ suc (k - 1) = omega arith in
+      subst (λ (j : ℕ). Walking w₀ w (itemsOf m j w) a col s) e h
+
+  none-left : (w : List ℕ) (m k : ℕ) → k ≡ 0 → itemsOf m k w ≡ []
+  none-left w m k e = rw e
+
+  -- nothing left
+  pub walk-end : (w₀ w : List ℕ) (m k a col s r : ℕ) → k ≡ 0 → Walking w₀ w (itemsOf m k w) a col s → Nearest w a 0 r → r ≡ 0 → fits s ≡ whole w
+  walk-end w₀ w m k a col s r z h f e =
+      let q : reread (stackOf a w) ≡ [] = sym (from-reread (stackOf a w)) ∙ ap reread (f .found) ∙ rw e in
+      sym (fit-nil T W s col) ∙ (rw (none-left w m k z, q) at (h .said))
+
+  -- the next waiting node, read as broken
+  pub walk-next : (w₀ w : List ℕ) (m k a col s r : ℕ) → k ≡ 0 → Walking w₀ w (itemsOf m k w) a col s → Nearest w a 0 r → (r ≡ 0 → ⊥) → Walking w₀ w (hand w (getD w ((r - 1) * 4) 0) 0 k) (r - 1) col s
+  walk-next w₀ w m k a col s r z h f ne =
+      let lt : 0 < r = omega arith in
+      let t : getD w ((r - 1) * 4 + 3) 0 ≡ 0 = f .tagged lt in
+      let top : stackOf r w ≡ node (getD w ((r - 1) * 4) 0) (getD w ((r - 1) * 4 + 1) 0) (modeOf (getD w ((r - 1) * 4 + 2) 0)) ∷ stackOf (r - 1) w = stack-top w r lt ∙ rw t in
+      let q : reread (stackOf a w) ≡ item (getD w ((r - 1) * 4) 0) broken ∷ reread (stackOf (r - 1) w) = sym (from-reread (stackOf a w)) ∙ ap reread (f .found ∙ top) in
+      let g : Nodes (h .N) (node (getD w ((r - 1) * 4) 0) (getD w ((r - 1) * 4 + 1) 0) (modeOf (getD w ((r - 1) * 4 + 2) 0)) ∷ stackOf (r - 1) w) =
+      subst (λ (l : List Entry). Nodes (h .N) l) (f .found ∙ top) (from-nodes (h .N) (stackOf a w) (h .nodes)) in
+      record {
+        N = h .N;
+        valid = h .valid;
+        words = h .words;
+        small = h .small;
+        width = h .width;
+        area = h .area;
+        deep = h .deep;
+        at = omega (arith, f .within, h .at);
+        same = h .same;
+        long = h .long;
+        nodes = g .1;
+        stack = rw (none-left w 0 k z) (omega (arith, g .0), tt);
+        column = h .column;
+        said = rw (none-left w 0 k z) (rw (none-left w m k z, q) at (h .said));
+      }
+
+  -- the answer, over the work area as it is now
+  pub walk-fitted : (w w′ : List ℕ) (r : Fit) → d ≤ 1024 → Same 1024 w w′ → verdictOf r ≡ whole w′ → Fitted T W x d c left w r w′
+  walk-fitted w w′ r le p e = record { same = p; said = e ∙ rw (stack-same d w w′ (same-less d 1024 w w′ le p)) }

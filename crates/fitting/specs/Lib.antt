@@ -1,0 +1,2 @@
+-- What the fit test's functions promise.
+pub mod Fitting

@@ -1,0 +1,40 @@
+-- What is taken up when a node is done: ends of annotations and trials, until a node is on top or nothing waits.
+use mathlib.Core.Path.{_≡_}
+use Prim.Native.Nat.{ℕ, _*_, _/_, _≤_}
+use mathlib.Core.Bool.{Bool}
+use mathlib.Core.List.{List, [], _∷_}
+use lib.ListN.{length}
+use lib.Dec.{ltb}
+use Rattle.table.specs.Pick.{pick}
+use Rattle.rules.specs.Layout.{Limits, Page, marked}
+use Rattle.machine.specs.Waiting.{Saved, Entry, node, trial, mark, back}
+use Rattle.machine.specs.Turn.{Env, Turned, on, stop}
+use Rattle.machine.specs.Well.{Stacked}
+use Rattle.waiting.specs.Stack.{flagOf, stackOf}
+use Rattle.waiting.specs.declared.Hand.{Hand}
+use Rattle.lay.specs.State.{pageOf}
+use Rattle.lay.specs.Turning.{Turning}
+use Rattle.lay.specs.declared.State.{State}
+use Rattle.lay.specs.declared.Turn.{Turn}
+use Rattle.render.specs.Visit.{envOf, visited}
+
+-- several turns of the step function in one
+unfoldable pub takeUp : Limits → Page → ℕ → Bool → List Entry → Turned
+takeUp L p left over [] = on p left over []
+takeUp L p left over (node n i m ∷ w) = on p left over (node n i m ∷ w)
+takeUp L p left over (trial b i m s ∷ w) = pick over (on (back s p) left (s .over) (node b i m ∷ w)) (takeUp L p left (s .over) w)
+takeUp L p left over (mark n l ∷ w) =
+    pick (ltb (length (p .events)) (L .slots)) (takeUp L (marked 0 l p) left over w) (stop 9 n left)
+
+-- from where a visit led
+abbrev pub upFrom : Limits → Turned → Turned
+upFrom L (on p left over w) = takeUp L p left over w
+upFrom L (stop a n left) = stop a n left
+
+-- over a state that is well, and any output
+pub record TakenUp (s : State) (ev w : List ℕ) (r : Turn) (ev′ : List ℕ) : Type 0 where
+  pub turning : (L : Limits) (out : List ℕ) (N : ℕ) → L .slots ≡ length ev / 3 → s .used ≤ length out → Stacked N (s .used) (s .marks) (stackOf (s .depth) w) → Turning r out ev′ w (takeUp L (pageOf s out ev) (s .left) (flagOf (s .over)) (stackOf (s .depth) w))
+
+-- a visit, and what is taken up after it
+pub record TurnedUp (T tx out ev w : List ℕ) (W : ℕ) (s : State) (h : Hand) (r : Turn) (out′ ev′ w′ : List ℕ) : Type 0 where
+  pub turning : (limit : ℕ) → Turning r out′ ev′ w′ (upFrom (envOf T tx out ev W limit .limits) (visited T tx out ev w W limit s h))

@@ -1,0 +1,154 @@
+// The engine: `best` lays a valid table out, node after node.
+//
+// The node in hand is visited, then what waits is taken up: ends of annotations and of trials, until a node is in hand again or nothing waits.
+// Not an entry point of the library: the crate sheet tests sizes and the table before it comes here, and clears the buffers after it.
+use lay::{State, Turn};
+use table::{Column, Indent, NodeNo};
+use waiting::{Hand, Mode};
+ghost use Prim.Native.Nat.{_+_, _*_, _≤_, _<_};
+ghost use lib.ListN.{length};
+ghost use Rattle.render.specs.Visit.{Ready, Visited};
+ghost use Rattle.render.specs.TakeUp.{TakenUp, TurnedUp};
+ghost use Rattle.render.specs.Best.{Start, Laid};
+
+// How a run ended: the answer, the place, the steps left, the bytes and the events used.
+pub struct End {
+    pub answer: u32,
+    pub place: NodeNo,
+    pub left: u32,
+    pub used: u32,
+    pub marks: u32,
+}
+
+// The node in hand is visited.
+fn visit(table: &[u32], text: &[u8], out: &mut [u8], events: &mut [u32], work: &mut [u32], width: u32, s: State, hand: Hand) -> Turn
+    requires { ⌜ Ready (now table) (now text) (now out) (now events) (now work) width s hand ⌝ }
+    ensures { λ r. ⌜ Visited (now (table .entry)) (now (text .entry)) (now (out .entry)) (now (events .entry)) (now (work .entry)) width s hand r (now (out .exit)) (now (events .exit)) (now (work .exit)) ⌝ }
+{
+    let at = (hand.node.0 as usize) * 4;
+    let kind = table[at];
+    let a = table[at + 1];
+    let b = table[at + 2];
+    let c = table[at + 3];
+    let own = hand.indent;
+    let mode = hand.mode;
+    match kind {
+        0 => Turn::Done(s),
+        1 => lay::lay_append(work, s, hand, a, b),
+        2 => lay::lay_group(table, work, width, s, hand, a),
+        3 => if mode.0 == 0 { Turn::Go(lay::child_of(hand, a), s) } else { Turn::Go(lay::child_of(hand, b), s) },
+        4 => {
+            let indent = lay::nest_by(own, b, c);
+            Turn::Go(Hand { node: NodeNo(a), indent, mode }, s)
+        }
+        5 => lay::lay_hardline(out, work, s, own),
+        6 => lay::lay_text(text, out, width, s, a, b, c),
+        7 => lay::lay_annotated(events, work, s, hand, a, b),
+        8 => lay::lay_union(work, s, hand, a, b),
+        9 => {
+            let column = s.column;
+            let indent = column.to_indent();
+            Turn::Go(Hand { node: NodeNo(a), indent, mode }, s)
+        }
+        _ => lay::lay_fail(work, s),
+    }
+}
+
+// A node is done: ends are taken up, until a node goes on or nothing waits.
+fn take_up(events: &mut [u32], work: &[u32], state: State) -> Turn
+    requires { ⌜ (state .depth ≤ 1024) × (8192 ≤ length (now work)) × (state .marks * 3 ≤ length (now events)) × (length (now events) ≤ 12290) ⌝ }
+    ensures { λ r. ⌜ TakenUp state (now (events .entry)) (now (work .entry)) r (now (events .exit)) ⌝ }
+{
+    let mut s = state;
+    while 0 < s.depth {
+        let d = s.depth - 1;
+        let tag = work[d * 4 + 3];
+        if tag == waiting::NODE {
+            s.depth = d;
+            return Turn::Go(waiting::hand_at(work, d), s);
+        }
+        if tag == waiting::TRIAL {
+            let saved = waiting::saved_at(work, d);
+            if s.over != 0 {
+                return Turn::Go(waiting::hand_at(work, d), lay::restored(s, saved, d));
+            }
+            s.over = saved.over;
+        } else {
+            if !lay::put_event(events, s.marks, s.used, 0, work[d * 4 + 1]) {
+                return Turn::Stop(9, NodeNo(work[d * 4]), s.left);
+            }
+            s.marks = s.marks + 1;
+        }
+        s.depth = d;
+    }
+    Turn::Done(s)
+}
+
+// A visit, and what waits after it.
+fn turn(table: &[u32], text: &[u8], out: &mut [u8], events: &mut [u32], work: &mut [u32], width: u32, s: State, hand: Hand) -> Turn
+    requires { ⌜ Ready (now table) (now text) (now out) (now events) (now work) width s hand ⌝ }
+    ensures { λ r. ⌜ TurnedUp (now (table .entry)) (now (text .entry)) (now (out .entry)) (now (events .entry)) (now (work .entry)) width s hand r (now (out .exit)) (now (events .exit)) (now (work .exit)) ⌝ }
+{
+    match visit(table, text, out, events, work, width, s, hand) {
+        Turn::Go(next, on) => Turn::Go(next, on),
+        Turn::Done(on) => take_up(events, work, on),
+        Turn::Stop(answer, place, left) => Turn::Stop(answer, place, left),
+    }
+}
+
+// The run over a valid table of so many nodes: the root at indentation 0, broken.
+pub fn best(table: &[u32], text: &[u8], out: &mut [u8], events: &mut [u32], work: &mut [u32], width: u32, limit: u32, nodes: u32) -> End
+    requires { ⌜ Start (now table) (now text) (now out) (now events) (now work) width nodes ⌝ }
+    ensures { λ r. ⌜ Laid (now (table .entry)) (now (text .entry)) (now (out .entry)) (now (events .entry)) width limit nodes r (now (out .exit)) (now (events .exit)) ⌝ }
+{
+    let mut hand = Hand {
+        node: NodeNo(nodes - 1),
+        indent: Indent(0),
+        mode: Mode(0),
+    };
+    let mut s = State {
+        column: Column(0),
+        used: 0,
+        marks: 0,
+        left: limit,
+        over: 0,
+        depth: 0,
+    };
+    loop {
+        if s.left == 0 {
+            let place = hand.node;
+            return End {
+                answer: 7,
+                place,
+                left: 0,
+                used: 0,
+                marks: 0,
+            };
+        }
+        s.left = s.left - 1;
+        match turn(table, text, out, events, work, width, s, hand) {
+            Turn::Go(next, on) => {
+                hand = next;
+                s = on;
+            }
+            Turn::Done(on) => {
+                return End {
+                    answer: 0,
+                    place: NodeNo(0),
+                    left: on.left,
+                    used: on.used,
+                    marks: on.marks,
+                };
+            }
+            Turn::Stop(answer, place, left) => {
+                return End {
+                    answer,
+                    place,
+                    left,
+                    used: 0,
+                    marks: 0,
+                };
+            }
+        }
+    }
+}

@@ -1,0 +1,21 @@
+-- What follows from the definitions, with no code in sight.
+-- computed: how a case is written and tested, document 01's marked cases, and the readings of its open points
+pub mod Case
+pub mod Marked
+mod Readings
+-- demand 3: what a document means, the laws as equations of meanings, that a run meets its meaning, and the theorem
+pub mod Meaning
+pub mod Laws
+pub mod Bridge
+pub mod Hold
+pub mod Demand3
+-- computed: a pair of tables for each law, and what is not a law
+mod Pairs
+mod Examples
+mod NotLaws
+-- every run keeps its limits, what a call answers, and what its buffers hold
+pub mod Bounds
+pub mod Answers
+pub mod Cleared
+-- like trees run alike
+pub mod Like
