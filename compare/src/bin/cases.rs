@@ -53,7 +53,7 @@ ran t x w l r e a n s bs es =
 /// Small calls: few nodes, few writes, for antt computes them.
 fn sample(count: usize, seed: u64) -> Vec<(Call, Report)> {
     let most = |answer: u32| match answer {
-        0 => count * 2 / 5,
+        0 => count - 5 * (count / 50) - 4 * (count / 8),
         1..=5 => count / 50,
         _ => count / 8,
     };
@@ -68,7 +68,7 @@ fn sample(count: usize, seed: u64) -> Vec<(Call, Report)> {
         let small = call.table.words.len() <= 60 && call.table.text.len() <= 40 && report.bytes.len() <= 40 && report.steps <= 300;
         let answer = report.answer as usize;
         // the least of runs say nothing
-        if !small || report.answer == 0 && report.steps < 4 || made[answer] >= most(report.answer) && cases.len() + 10 < count {
+        if !small || report.answer == 0 && report.steps < 4 || made[answer] >= most(report.answer) {
             continue;
         }
         made[answer] += 1;

@@ -98,7 +98,7 @@ mod search {
 
     fn exhaust(found: &mut Found, nodes: usize) {
         let parts = Parts {
-            texts: vec![1],
+            texts: vec![0, 1],
             beyond: false,
             leaves: vec![NIL, HARDLINE, FAIL],
             single: vec![GROUP, ANNOTATED, ALIGN],
