@@ -88,11 +88,11 @@ pub fn differs(call: &Call, lent: &mut Lent, wanted: &Report) -> Option<String> 
     if call.report >= 5 && lent.report[..5] != words {
         return Some(format!("report {:?}, not {words:?}", &lent.report[..5]));
     }
-    if lent.report.iter().skip(5).any(|&w| w != 0) || call.report < 5 && lent.report.iter().any(|&w| w != 0) {
+    if !zero(lent.report.get(if call.report < 5 { 0 } else { 5 }..).unwrap_or_default()) {
         return Some(format!("the report's other words are {:?}", lent.report));
     }
     let used = wanted.bytes.len();
-    if lent.out[..used] != wanted.bytes[..] || lent.out[used..].iter().any(|&b| b != 0) {
+    if lent.out[..used] != wanted.bytes[..] || !zero(&lent.out[used..]) {
         return Some(format!("output {:?}", String::from_utf8_lossy(&lent.out)));
     }
     let used = wanted.events.len();
@@ -100,8 +100,13 @@ pub fn differs(call: &Call, lent: &mut Lent, wanted: &Report) -> Option<String> 
     if lent.events[..used] != wanted.events[..] || lent.events[used..].iter().any(|&e| e != none) {
         return Some(format!("events {:?}", &lent.events[..used.min(lent.events.len())]));
     }
-    if lent.work.iter().any(|&w| w != 0) {
+    if !zero(&lent.work) {
         return Some("work is not zero".into());
     }
     None
+}
+
+/// Whether all are zero, a block at a time.
+fn zero<T: Copy + Default + PartialEq + std::ops::BitOr<Output = T>>(slice: &[T]) -> bool {
+    slice.chunks(1024).all(|block| block.iter().fold(T::default(), |all, &one| all | one) == T::default())
 }
