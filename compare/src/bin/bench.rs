@@ -1,5 +1,5 @@
 //! bench [rounds=N]: whole calls of our library beside the crate's `render` of the already built document, in one process,
-//! in turns. Prints medians with quartiles, the ratio, ns a step and, for ours, the parts: clearing (a call refused with 1),
+//! in turns. Prints medians with quartiles and the least, the ratio, ns a step and, for ours, the parts: clearing (a call refused with 1),
 //! validation (a call with step limit 0, less clearing), layout (the rest). docs/PERFORMANCE.md says what was measured.
 
 use compare::calls::{Call, WORK};
@@ -49,7 +49,7 @@ impl Timed {
     }
 
     fn shown(&self) -> String {
-        format!("{:.0} ({:.0} to {:.0})", self.median(), self.quartile(1), self.quartile(3))
+        format!("{:.0} ({:.0} to {:.0}, least {:.0})", self.median(), self.quartile(1), self.quartile(3), self.quartile(0))
     }
 }
 
@@ -132,6 +132,9 @@ fn each_side(load: &Load, call: &Call, run: &Run, rounds: usize, steps: f64) {
         black_box(dirty);
         black_box(&mut own).fill(0);
     }));
+    let mut own: Vec<u32> = vec![0; (load.room + 12 * load.slots) / 4 + WORK];
+    names.push("clearing as much");
+    calls.push(Box::new(move || black_box(&mut own).fill(0)));
     let _ = (call, run);
     let timed = in_turns(rounds, &mut calls);
     for (name, timed) in names.iter().zip(&timed) {
@@ -142,6 +145,9 @@ fn each_side(load: &Load, call: &Call, run: &Run, rounds: usize, steps: f64) {
         println!("  clearing {refused:.0}, validation {:.0}, layout {:.0}", unlaid - refused, whole - unlaid);
         if let Some(theirs) = of("crate, render") {
             println!("  RATIO {:.2}, layout alone {:.2}", whole / theirs, (whole - unlaid) / theirs);
+        }
+        if let Some(floor) = of("reading and clearing as much") {
+            println!("  to reading and clearing as much: {:.2}", whole / floor);
         }
     }
 }
