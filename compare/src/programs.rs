@@ -67,6 +67,33 @@ fn random_leaf(random: &mut Random) -> Make {
     }
 }
 
+/// A call whose operands are node numbers, often past those that there are, and whose amounts and texts are often wrong.
+pub fn wild_make(random: &mut Random, nodes: usize) -> Make {
+    let make = random_make(random, nodes);
+    let wild = random.one_in(12);
+    let past = random.below(3);
+    let make = with_operands(&make, &|operand| if wild && operand as usize % 3 == past { operand + nodes as u32 } else { operand });
+    if !random.one_in(8) {
+        return make;
+    }
+    let wrong = *random.of(&[999, 1000, 1001, 65_536, u32::MAX]);
+    match make {
+        Make::Nest(a, amount, _) => Make::Nest(a, amount, random.below(3) as u32),
+        Make::Hang(a, _, way) => Make::Hang(a, wrong, way),
+        Make::Indent(a, _) => Make::Indent(a, wrong),
+        Make::Block(affixes, body, _, way) => Make::Block(affixes, body, wrong, way),
+        Make::Text(mut bytes, columns) => {
+            if bytes.is_empty() || random.one_in(3) {
+                return Make::Text(bytes, *random.of(&[0, 1, columns.wrapping_add(1), u32::MAX]));
+            }
+            let at = random.below(bytes.len());
+            bytes[at] = random.next() as u8;
+            Make::Text(bytes, columns)
+        }
+        other => other,
+    }
+}
+
 /// The same call with each operand replaced.
 pub fn with_operands(make: &Make, to: &dyn Fn(u32) -> u32) -> Make {
     let all = |nodes: &[u32]| nodes.iter().map(|&node| to(node)).collect::<Vec<u32>>();
