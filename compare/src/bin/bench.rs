@@ -111,17 +111,18 @@ fn each_side(load: &Load, call: &Call, run: &Run, rounds: usize, steps: f64) {
     }
     #[cfg(archive)]
     {
-        use compare::archive::{differs, Lent};
-        assert_eq!(differs(call, &mut Lent::default(), &run.report), None, "{}", load.name);
-        for (name, width, limit) in [
-            ("ours, whole call", call.width, call.limit),
-            ("ours, step limit 0", call.width, 0),
-            ("ours, refused with 1", 65_536, call.limit),
+        use compare::archive::{differs, Export, Lent};
+        for (name, export, width, limit) in [
+            ("ours, whole call", Export::Words, call.width, call.limit),
+            ("ours, step limit 0", Export::Words, call.width, 0),
+            ("ours, refused with 1", Export::Words, 65_536, call.limit),
+            ("ours, events as records", Export::Layout, call.width, call.limit),
         ] {
+            assert_eq!(differs(export, call, &mut Lent::default(), &run.report), None, "{}", load.name);
             let mut lent = Lent::sized(call);
             names.push(name);
             calls.push(Box::new(move || {
-                black_box(lent.lay_out(black_box(&call.table.words), &call.table.text, width, limit));
+                black_box(lent.call(export, black_box(&call.table.words), &call.table.text, width, limit));
             }));
         }
     }

@@ -75,7 +75,7 @@ fn random_layouts(tally: &mut Tally, seed: u64, count: u64) {
     for _ in 0..count {
         let nodes = random_size(&mut random);
         let table = random_table(&mut random, nodes);
-        let width = random_width(&mut random);
+        let width = if random.one_in(10) { 42 } else { random_width(&mut random) };
         tally.layout(&Call::roomy(table, width));
     }
     println!("random tables, seed {seed}: {count} layouts");
@@ -169,8 +169,11 @@ impl Tally {
     #[cfg(archive)]
     fn beside_archive(&mut self, call: &Call, report: &Report) {
         self.answered(report);
+        // one of the exports after the other
+        let exports = compare::archive::Export::for_call(call);
+        let export = exports[self.archive_calls as usize % exports.len()];
         self.archive_calls += 1;
-        if let Some(what) = compare::archive::differs(call, &mut self.lent, report) {
+        if let Some(what) = compare::archive::differs(export, call, &mut self.lent, report) {
             self.differs(call, &format!("the archive, {what}"), report);
         }
     }
