@@ -185,16 +185,18 @@ fn blocks() -> Table {
     m.done(root)
 }
 
-/// One row, used 4,096 times by twelve doublings.
+/// One row of four words in nests, used 8,192 times by thirteen doublings.
 fn shared() -> Table {
     let mut m = Maker::new();
     let between = m.make(Make::Softline);
     let end = m.make(Make::Hardline);
-    let words: Vec<u32> = ["a", "b", "c", "d", "e", "f", "g", "h"].iter().map(|word| m.text(word)).collect();
-    let row = m.make(Make::Intersperse(words, between));
-    let row = m.make(Make::Nest(row, 2, 0));
+    let words: Vec<u32> = ["a", "b", "c", "d"].iter().map(|word| m.text(word)).collect();
+    let mut row = m.make(Make::Intersperse(words, between));
+    for amount in 1..=22 {
+        row = m.make(Make::Nest(row, amount, 0));
+    }
     let mut sheet = m.make(Make::Append(row, end));
-    for _ in 0..12 {
+    for _ in 0..13 {
         sheet = m.make(Make::Append(sheet, sheet));
     }
     m.done(sheet)

@@ -17,14 +17,16 @@ fn main() {
         println!("our archive is not at hand (PURSEGABLE_ARCHIVE), so it is not timed");
     }
     println!("times in ns: median (quartiles) of {rounds} rounds in turns; lent: {WORK} words of work, 5 of report");
-    for load in loads() {
-        time(&load, rounds);
-    }
+    let mut rows: Vec<String> = loads().iter().filter_map(|load| time(load, rounds)).collect();
     println!("\ngrowing");
-    for load in growing() {
-        time(&load, rounds / 2);
+    rows.extend(growing().iter().filter_map(|load| time(load, rounds / 2)));
+    if !rows.is_empty() {
+        println!("\nfor docs/PERFORMANCE.md: medians, and the ratio of the least\n\n{HEAD}\n{}", rows.join("\n"));
     }
 }
+
+const HEAD: &str = "| load | nodes, steps, bytes | crate | ours | ratio (of the least) | clearing, validation, layout | layout alone | ns a step |
+|---|---|---|---|---|---|---|---|";
 
 /// Repeats of one round's call, so that it lasts some 50 µs.
 fn repeats(mut call: impl FnMut()) -> usize {
@@ -67,7 +69,8 @@ fn in_turns(rounds: usize, calls: &mut [Box<dyn FnMut() + '_>]) -> Vec<Timed> {
     timed
 }
 
-fn time(load: &Load, rounds: usize) {
+/// Tells how long a load takes on each side; a row of the table where both are at hand.
+fn time(load: &Load, rounds: usize) -> Option<String> {
     let mut call = Call::roomy(load.table.clone(), load.width);
     call.room = load.room;
     call.slots = load.slots;
@@ -84,10 +87,10 @@ fn time(load: &Load, rounds: usize) {
         run.report.events.len(),
         load.slots
     );
-    each_side(load, &call, &run, rounds, f64::from(steps));
+    each_side(load, &call, &run, rounds, f64::from(steps))
 }
 
-fn each_side(load: &Load, call: &Call, run: &Run, rounds: usize, steps: f64) {
+fn each_side(load: &Load, call: &Call, run: &Run, rounds: usize, steps: f64) -> Option<String> {
     #[cfg(pretty)]
     let arena = pretty::Arena::new();
     #[cfg(pretty)]
@@ -141,16 +144,26 @@ fn each_side(load: &Load, call: &Call, run: &Run, rounds: usize, steps: f64) {
     for (name, timed) in names.iter().zip(&timed) {
         println!("  {name}: {}, {:.2} a step", timed.shown(), timed.median() / steps);
     }
-    let of = |name: &str| names.iter().position(|n| *n == name).map(|at| timed[at].median());
-    if let (Some(whole), Some(unlaid), Some(refused)) = (of("ours, whole call"), of("ours, step limit 0"), of("ours, refused with 1")) {
-        println!("  clearing {refused:.0}, validation {:.0}, layout {:.0}", unlaid - refused, whole - unlaid);
-        if let Some(theirs) = of("crate, render") {
-            println!("  RATIO {:.2}, layout alone {:.2}", whole / theirs, (whole - unlaid) / theirs);
-        }
-        if let Some(floor) = of("reading and clearing as much") {
-            println!("  to reading and clearing as much: {:.2}", whole / floor);
-        }
-    }
+    let of = |name: &str| names.iter().position(|n| *n == name).map(|at| &timed[at]);
+    let (whole, unlaid, refused) = (of("ours, whole call")?, of("ours, step limit 0")?, of("ours, refused with 1")?);
+    let (clearing, validation, layout) = (refused.median(), unlaid.median() - refused.median(), whole.median() - unlaid.median());
+    println!("  clearing {clearing:.0}, validation {validation:.0}, layout {layout:.0}");
+    println!("  to reading and clearing as much: {:.2}", whole.median() / of("reading and clearing as much")?.median());
+    let theirs = of("crate, render")?;
+    Some(format!(
+        "| {} | {}, {}, {} | {:.0} | {:.0} | {:.2} ({:.2}) | {clearing:.0}, {validation:.0}, {layout:.0} | {:.2} | {:.2}, {:.2} |",
+        load.name,
+        load.table.nodes(),
+        steps,
+        run.report.bytes.len(),
+        theirs.median(),
+        whole.median(),
+        whole.median() / theirs.median(),
+        whole.quartile(0) / theirs.quartile(0),
+        layout / theirs.median(),
+        theirs.median() / steps,
+        whole.median() / steps,
+    ))
 }
 
 #[cfg(pretty)]
