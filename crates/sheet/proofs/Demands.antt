@@ -1,22 +1,22 @@
 -- Demands 1 and 2 as theorems about every outcome that a public call's promise, `Called`, allows; and that it allows one only.
 --     demand-1             an answer of 0 to 9; lengths kept; zero past the used part, on a refusal all; the work area zero
 --     demand-2             answer, place, steps, bytes and events are those of the rules' definition of a call, for every input; and in its parts:
---     laid-out             within the sizes an accepted table is run by the layout rules, to answer 0 or 6 to 9
+--     laid-out, past-five  within the sizes an accepted table is run by the layout rules, and answers 0 or 6 to 9
 --     faulty, oversized    another table answers 1 to 5 by its first fault; sizes out of bounds answer 1
 --     unique               two outcomes for the same inputs are equal: the report and every lent buffer
 --     sheet-is             the whole sheet and the row label are the layout at 42 columns and 1,000,000 steps
 -- Assumes nothing.
 use mathlib.Core.Path.{_≡_, refl, sym, ap, _∙_}
-use Prim.Native.Nat.{ℕ, _*_, _≤_}
+use Prim.Native.Nat.{ℕ, _*_, _≤_, _<_}
 use native.Mathlib.Omega.{arith}
 use mathlib.Core.Bool.{Bool, true, false}
-use mathlib.Core.List.{List}
+use mathlib.Core.List.{List, []}
 use lib.ListN.{length, take, length-replicate}
 use lib.Seq.{take-append-seam, drop-append-seam}
 use borrow.Author.Tests.{le-leb}
 use Rattle.table.specs.Fault.{Fault, check}
 use Rattle.table.specs.Accepted.{Accepted}
-use Rattle.table.specs.Unfold.{tree, root}
+use Rattle.table.specs.Unfold.{Tree, tree, root}
 use Rattle.table.proofs.Accept.{accepted-of, of-accepted}
 use Rattle.rules.specs.Layout as rules
 use Rattle.rules.specs.Call.{Given, buffersRight, limits, refusal, call, eventWords, wordsOf, padded}
@@ -49,6 +49,18 @@ unique g words r r′ out out′ ev ev′ w w′ p q = (
 )
 
 -- ---- every call
+
+-- a run answers 0 or 6 to 9
+run-past-five : (x : rules.Outcome) → 0 < rules.report x .answer → 6 ≤ rules.report x .answer
+run-past-five (rules.done p o s) z = absurd (omega arith)
+run-past-five (rules.failed s) z = omega arith
+run-past-five (rules.refused rules.steps n s) z = omega arith
+run-past-five (rules.refused rules.bytes n s) z = omega arith
+run-past-five (rules.refused rules.events n s) z = omega arith
+
+layout-past-five : (L : rules.Limits) (t : Tree) → 0 < rules.layout L t .answer → 6 ≤ rules.layout L t .answer
+unfolding rules.layout
+layout-past-five L t z = run-past-five (rules.lay L t 0 rules.broken [] rules.blank 0) z
 
 module _ (table text : List ℕ) (width limit room words work : ℕ) (r : Report) (out events area : List ℕ) (c : Called (given table text width limit room words work) words r out events area) where
   abbrev g : Given
@@ -97,6 +109,11 @@ module _ (table text : List ℕ) (width limit room words work : ℕ) (r : Report
 
   pub laid-out : Sizes width limit room words work → Accepted table text → reported r out events ≡ rules.layout (limits g) (tree table text (root table))
   laid-out s a = demand-2 ∙ call-run g (within s) (ap (λ (f : Fault). f .answer) (of-accepted table text a))
+
+  pub past-five : Sizes width limit room words work → Accepted table text → 0 < r .answer → 6 ≤ r .answer
+  past-five s a z =
+      let e : r .answer ≡ rules.layout (limits g) (tree table text (root table)) .answer = ap (λ (x : rules.Report). x .answer) (laid-out s a) in
+      rw e (layout-past-five _ _ (rw e at z))
 
   pub faulty : Sizes width limit room words work → (Accepted table text → ⊥) → reported r out events ≡ refusal (check table text .answer) (check table text .place)
   faulty s ne = demand-2 ∙ call-fault g (within s) (λ z. ne (accepted-of table text z))
