@@ -21,7 +21,8 @@ use Rattle.rules.specs.Call.{Given, buffersRight, limits, refusal, call, wordsO
 use Rattle.machine.proofs.Rules.{layout-is}
 use Rattle.lay.specs.State.{eventsOf}
 use Rattle.lay.proofs.Events.{length-events}
-use Rattle.render.specs.Best.{Start, Laid}
+use Rattle.render.specs.Visit.{Start}
+use Rattle.render.specs.Best.{Laid}
 use Rattle.render.specs.declared.End.{End}
 use Rattle.sheet.specs.Called.{given, Called, Decided}
 use Rattle.sheet.specs.declared.Report.{Report}
