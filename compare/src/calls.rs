@@ -80,7 +80,7 @@ fn spoil(random: &mut Random, call: &mut Call) {
         0 => call.table.words.truncate(random.below(words + 1)),
         1 => {
             let more = random.below(4 * 1025);
-            call.table.words.extend(std::iter::repeat(0).take(more));
+            call.table.words.extend(std::iter::repeat_n(0, more));
         }
         2 => call.table.text.resize(*random.of(&[0, 1, 65_536, 65_537, 70_000]), b'x'),
         3 => call.width = *random.of(&[65_535, 65_536, u32::MAX]),
@@ -91,7 +91,7 @@ fn spoil(random: &mut Random, call: &mut Call) {
         8 => call.report = random.below(9),
         9 if !call.table.text.is_empty() => {
             let at = random.below(call.table.text.len());
-            call.table.text[at] = random.next() as u8;
+            call.table.text[at] = random.draw() as u8;
         }
         10 if words >= 4 => {
             let at = 4 * random.below(words / 4);
@@ -100,7 +100,19 @@ fn spoil(random: &mut Random, call: &mut Call) {
         _ if words > 0 => {
             let at = random.below(words);
             let n = (at / 4) as u32;
-            let near = [n, n + 1, n.wrapping_sub(1), 0, 1, 2, 1000, 1001, u32::MAX, random.below(12) as u32, call.table.text.len() as u32];
+            let near = [
+                n,
+                n + 1,
+                n.wrapping_sub(1),
+                0,
+                1,
+                2,
+                1000,
+                1001,
+                u32::MAX,
+                random.below(12) as u32,
+                call.table.text.len() as u32,
+            ];
             call.table.words[at] = *random.of(&near);
         }
         _ => {}

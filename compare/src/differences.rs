@@ -55,7 +55,9 @@ fn bytes_differ(table: &Table, ours: &[u8], theirs: &[u8]) -> Vec<&'static str> 
     }
     let (our_letters, their_letters) = (letters(ours), letters(theirs));
     // both gave a trial up if both wrote of a second arm
-    let both_gave_up = places.iter().any(|(letter, arm)| *arm == Some(SECOND) && our_letters.contains(letter) && their_letters.contains(letter));
+    let both_gave_up = places
+        .iter()
+        .any(|(letter, arm)| *arm == Some(SECOND) && our_letters.contains(letter) && their_letters.contains(letter));
     if both_gave_up && ours.starts_with(theirs) {
         all.push(if lines(ours) > lines(theirs) { "bytes: rows lost" } else { "bytes: the rest of a row lost" });
     } else if part_lost(ours, theirs) {
@@ -73,7 +75,9 @@ fn bytes_differ(table: &Table, ours: &[u8], theirs: &[u8]) -> Vec<&'static str> 
             arms(table, table.words[4 * n + word] as usize, None, &mut places);
             places.iter().filter(|(_, arm)| arm.is_none()).map(|&(letter, _)| letter).collect::<Vec<u8>>()
         };
-        let only = |here: &[u8], not: &[u8], from: &[u8]| from.iter().any(|l| here.contains(l)) && !from.iter().any(|l| not.contains(l));
+        let only = |here: &[u8], not: &[u8], from: &[u8]| {
+            from.iter().any(|l| here.contains(l)) && !from.iter().any(|l| not.contains(l))
+        };
         let (broken, flat) = (side(1), side(2));
         if only(&our_letters, &their_letters, &broken) && only(&their_letters, &our_letters, &flat) {
             all.push("bytes: flat where 01 is broken");
@@ -109,14 +113,20 @@ fn part_lost(ours: &[u8], theirs: &[u8]) -> bool {
     let same = ours.iter().zip(theirs).take_while(|(a, b)| a == b).count();
     theirs.len() < ours.len() && {
         let lost = &ours[same..same + ours.len() - theirs.len()];
-        ours.ends_with(&theirs[same..]) && lost.iter().all(u8::is_ascii_lowercase) && theirs.get(same).is_some_and(u8::is_ascii_lowercase)
+        ours.ends_with(&theirs[same..])
+            && lost.iter().all(u8::is_ascii_lowercase)
+            && theirs.get(same).is_some_and(u8::is_ascii_lowercase)
     }
 }
 
 /// The same words for each cause: a Hardline, a trial, or both are in the table.
 macro_rules! by_cause {
     ($what: literal) => {
-        [concat!("marks: ", $what, ", by a Hardline"), concat!("marks: ", $what, ", by a trial"), concat!("marks: ", $what, ", by both")]
+        [
+            concat!("marks: ", $what, ", by a Hardline"),
+            concat!("marks: ", $what, ", by a trial"),
+            concat!("marks: ", $what, ", by both"),
+        ]
     };
 }
 
@@ -188,7 +198,9 @@ pub fn smaller(table: &Table, width: u32) -> Vec<(Table, u32)> {
     }
     for m in 0..nodes {
         for n in 0..m {
-            if table.words[4 * m..4 * m + 4] == table.words[4 * n..4 * n + 4] || table.words[4 * m] == table.words[4 * n] && table.words[4 * m] == TEXT {
+            if table.words[4 * m..4 * m + 4] == table.words[4 * n..4 * n + 4]
+                || table.words[4 * m] == table.words[4 * n] && table.words[4 * m] == TEXT
+            {
                 all.push((renamed(table, m as u32, n as u32), width));
             }
         }

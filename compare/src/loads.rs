@@ -72,8 +72,18 @@ impl Maker {
 }
 
 const THINGS: [&str; 12] = [
-    "saw", "smoothing plane", "chisel 12 mm", "marking gauge", "mallet", "brace and bits", "spokeshave", "try square", "rasp",
-    "cabinet scraper", "drawknife", "dovetail saw, 15 teeth",
+    "saw",
+    "smoothing plane",
+    "chisel 12 mm",
+    "marking gauge",
+    "mallet",
+    "brace and bits",
+    "spokeshave",
+    "try square",
+    "rasp",
+    "cabinet scraper",
+    "drawknife",
+    "dovetail saw, 15 teeth",
 ];
 const REMARKS: [(&str, &str); 7] = [
     ("to be", "sharpened"),

@@ -86,7 +86,11 @@ impl Builder {
             return 11;
         }
         match make {
-            Make::Nest(_, amount, way) | Make::Hang(_, amount, way) | Make::Block(_, _, amount, way) if *amount > 1000 || *way > 1 => 3,
+            Make::Nest(_, amount, way) | Make::Hang(_, amount, way) | Make::Block(_, _, amount, way)
+                if *amount > 1000 || *way > 1 =>
+            {
+                3
+            }
             Make::Indent(_, amount) if *amount > 1000 => 3,
             Make::Text(bytes, columns) if !columns_right(bytes, *columns as usize) => 5,
             _ => 0,
@@ -262,9 +266,13 @@ pub fn operands(make: &Make) -> Vec<u32> {
         Make::Append(a, b) | Make::FlatAlt(a, b) | Make::Union(a, b) => vec![*a, *b],
         Make::Concat(nodes) => nodes.clone(),
         Make::Intersperse(nodes, separator) => [nodes.as_slice(), &[*separator]].concat(),
-        Make::Group(a) | Make::Nest(a, ..) | Make::Annotate(a, _) | Make::Align(a) | Make::Hang(a, ..) | Make::Indent(a, _) => vec![*a],
+        Make::Group(a) | Make::Nest(a, ..) | Make::Annotate(a, _) | Make::Align(a) | Make::Hang(a, ..) | Make::Indent(a, _) => {
+            vec![*a]
+        }
         Make::Enclose(a, before, after) => vec![*a, *before, *after],
-        Make::Block(affixes, body, ..) => affixes.iter().flat_map(|affix| [affix.prefix, affix.suffix]).chain([*body]).collect(),
+        Make::Block(affixes, body, ..) => {
+            affixes.iter().flat_map(|affix| [affix.prefix, affix.suffix]).chain([*body]).collect()
+        }
         _ => Vec::new(),
     }
 }

@@ -72,7 +72,8 @@ pub fn wild_make(random: &mut Random, nodes: usize) -> Make {
     let make = random_make(random, nodes);
     let wild = random.one_in(12);
     let past = random.below(3);
-    let make = with_operands(&make, &|operand| if wild && operand as usize % 3 == past { operand + nodes as u32 } else { operand });
+    let make =
+        with_operands(&make, &|operand| if wild && operand as usize % 3 == past { operand + nodes as u32 } else { operand });
     if !random.one_in(8) {
         return make;
     }
@@ -87,7 +88,7 @@ pub fn wild_make(random: &mut Random, nodes: usize) -> Make {
                 return Make::Text(bytes, *random.of(&[0, 1, columns.wrapping_add(1), u32::MAX]));
             }
             let at = random.below(bytes.len());
-            bytes[at] = random.next() as u8;
+            bytes[at] = random.draw() as u8;
             Make::Text(bytes, columns)
         }
         other => other,

@@ -7,7 +7,7 @@ use crate::model::{kind::*, shape};
 pub struct Random(pub u64);
 
 impl Random {
-    pub fn next(&mut self) -> u64 {
+    pub fn draw(&mut self) -> u64 {
         self.0 = self.0.wrapping_add(0x9e37_79b9_7f4a_7c15);
         let mut z = self.0;
         z = (z ^ (z >> 30)).wrapping_mul(0xbf58_476d_1ce4_e5b9);
@@ -17,7 +17,7 @@ impl Random {
 
     /// A number below n, which is not 0.
     pub fn below(&mut self, n: usize) -> usize {
-        ((self.next() >> 32) * n as u64 >> 32) as usize
+        (((self.draw() >> 32) * n as u64) >> 32) as usize
     }
 
     /// One chance in n.
@@ -118,7 +118,7 @@ pub fn random_table(random: &mut Random, nodes: usize) -> Table {
     let mut weights = [2, 9, 4, 4, 3, 4, 8, 3, 5, 2, 1];
     for weight in weights.iter_mut() {
         if random.one_in(3) {
-            *weight = random.below(3) * *weight;
+            *weight *= random.below(3);
         }
     }
     weights[TEXT as usize] += 1;
@@ -180,7 +180,7 @@ fn random_node(random: &mut Random, table: &mut Table, free: &mut Vec<u32>, kind
         }
         ANNOTATED => {
             let child = random_child(random, table, free);
-            let label = if random.one_in(20) { random.next() as u32 } else { random.below(10) as u32 };
+            let label = if random.one_in(20) { random.draw() as u32 } else { random.below(10) as u32 };
             table.push(kind, child, label, 0)
         }
         NEST => {
@@ -259,7 +259,11 @@ pub fn extreme_tables() -> Vec<Table> {
         chain(&wide, &|n| [UNION, 0, n - 1, 0], [UNION, 0, 1022, 0]),
         chain(&[FAIL, 0, 0, 0], &|n| [UNION, n - 1, 0, 0], [UNION, 1022, 0, 0]),
         chain(&text, &|n| [ANNOTATED, n - 1, n, 0], [ANNOTATED, 1022, 0, 0]),
-        chain(&wide, &|n| [if n % 2 == 0 { UNION } else { ANNOTATED }, n - 1, if n % 2 == 0 { 0 } else { n }, 0], [GROUP, 1022, 0, 0]),
+        chain(
+            &wide,
+            &|n| [if n % 2 == 0 { UNION } else { ANNOTATED }, n - 1, if n % 2 == 0 { 0 } else { n }, 0],
+            [GROUP, 1022, 0, 0],
+        ),
         chain(&[HARDLINE, 0, 0, 0], &|n| [NEST, n - 1, 1000, 0], [NEST, 1022, 1000, 0]),
         chain(&[HARDLINE, 0, 0, 0], &|n| [NEST, n - 1, if n < 66 { 1 } else { 1000 }, u32::from(n < 66)], [NEST, 1022, 535, 0]),
         chain(&[HARDLINE, 0, 0, 0], &|n| [APPEND, n - 1, n - 1, 0], [GROUP, 1022, 0, 0]),

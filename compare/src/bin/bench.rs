@@ -57,7 +57,7 @@ impl Timed {
 
 /// Times each of the calls in turn, round by round.
 fn in_turns(rounds: usize, calls: &mut [Box<dyn FnMut() + '_>]) -> Vec<Timed> {
-    let repeats: Vec<usize> = calls.iter_mut().map(|call| repeats(call)).collect();
+    let repeats: Vec<usize> = calls.iter_mut().map(repeats).collect();
     let mut timed: Vec<Timed> = calls.iter().map(|_| Timed(Vec::new())).collect();
     for _ in 0..rounds {
         for ((call, &repeats), timed) in calls.iter_mut().zip(&repeats).zip(&mut timed) {
@@ -146,7 +146,8 @@ fn each_side(load: &Load, call: &Call, run: &Run, rounds: usize, steps: f64) -> 
     }
     let of = |name: &str| names.iter().position(|n| *n == name).map(|at| &timed[at]);
     let (whole, unlaid, refused) = (of("ours, whole call")?, of("ours, step limit 0")?, of("ours, refused with 1")?);
-    let (clearing, validation, layout) = (refused.median(), unlaid.median() - refused.median(), whole.median() - unlaid.median());
+    let (clearing, validation, layout) =
+        (refused.median(), unlaid.median() - refused.median(), whole.median() - unlaid.median());
     println!("  clearing {clearing:.0}, validation {validation:.0}, layout {layout:.0}");
     println!("  to reading and clearing as much: {:.2}", whole.median() / of("reading and clearing as much")?.median());
     let theirs = of("crate, render")?;

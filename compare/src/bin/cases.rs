@@ -65,7 +65,8 @@ fn sample(count: usize, seed: u64) -> Vec<(Call, Report)> {
         let mut call = if random.one_in(6) { wild_call(&mut random) } else { tight_call(&mut random, nodes, 300) };
         call.work = 16_384;
         let report = call.run().report;
-        let small = call.table.words.len() <= 60 && call.table.text.len() <= 40 && report.bytes.len() <= 40 && report.steps <= 300;
+        let small =
+            call.table.words.len() <= 60 && call.table.text.len() <= 40 && report.bytes.len() <= 40 && report.steps <= 300;
         let answer = report.answer as usize;
         // the least of runs say nothing
         if !small || report.answer == 0 && report.steps < 4 || made[answer] >= most(report.answer) {

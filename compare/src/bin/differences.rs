@@ -44,7 +44,12 @@ mod tell {
         vec![
             format!("    {}, width {}", table.said(), known.call.width),
             format!("    {} over {:?}", table.written(), shown(&table.text)),
-            format!("    01 and we: answer {}, {} steps{}", report.answer, report.steps, written(&report.bytes, &report.events)),
+            format!(
+                "    01 and we: answer {}, {} steps{}",
+                report.answer,
+                report.steps,
+                written(&report.bytes, &report.events)
+            ),
             format!("    the crate: {}{}", if wrote.failed { "fails" } else { "done" }, written(&wrote.bytes, &wrote.events)),
         ]
     }

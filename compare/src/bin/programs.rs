@@ -98,7 +98,8 @@ impl Tally {
             let words = builder.used.words[..4 * (*node as usize + 1)].to_vec();
             let table = Table { words, text: builder.used.text.clone() };
             // the crate has several Texts where it indents by more than 100
-            if table.unfolded() < 5_000 && !program.iter().any(|make| matches!(make, Make::Indent(_, amount) if *amount > 100)) {
+            if table.unfolded() < 5_000 && !program.iter().any(|make| matches!(make, Make::Indent(_, amount) if *amount > 100))
+            {
                 self.node_by_node += 1;
                 if !compare::beside::same_nodes(document, &table, *node as usize) {
                     self.wrong += 1;
@@ -122,7 +123,10 @@ impl Tally {
                 if run.clean && !same || run.marks_clean && !same_marks {
                     self.wrong += 1;
                     if self.wrong <= 5 {
-                        println!("DIFFERS at width {width}, the node of {make:?}, program {program:?}\n  table {}", table.written());
+                        println!(
+                            "DIFFERS at width {width}, the node of {make:?}, program {program:?}\n  table {}",
+                            table.written()
+                        );
                         println!("  model {report:?}\n  crate {wrote:?}");
                     }
                 }

@@ -118,7 +118,11 @@ fn list(numbers: &[u32], write: impl Fn(u32) -> String) -> String {
 fn run_line(name: &str, call: &Call) -> String {
     let text: Vec<u32> = call.table.text.iter().map(|&byte| u32::from(byte)).collect();
     let sizes = [call.width, call.limit, call.room as u32, call.slots as u32];
-    list(&call.table.words, |n| n.to_string()) + &list(&text, |n| format!("{n:02x}")) + &list(&sizes, |n| n.to_string()) + name + "\n"
+    list(&call.table.words, |n| n.to_string())
+        + &list(&text, |n| format!("{n:02x}"))
+        + &list(&sizes, |n| n.to_string())
+        + name
+        + "\n"
 }
 
 /// As the program writes it, each number by itself.

@@ -46,7 +46,7 @@ mod search {
         for (table, width) in by_hand().into_iter().chain(random) {
             for kind in shows(&table, width) {
                 let least = shrink(&table, width, kind);
-                if found.get(kind).map_or(true, |best| weight(&least) < weight(best)) {
+                if found.get(kind).is_none_or(|best| weight(&least) < weight(best)) {
                     found.insert(kind, least);
                 }
             }
@@ -112,7 +112,7 @@ mod search {
             for width in 0..=3 {
                 for kind in shows(table, width) {
                     let this = (table.clone(), width);
-                    if !found.contains_key(kind) && now.get(kind).map_or(true, |best| weight(&this) < weight(best)) {
+                    if !found.contains_key(kind) && now.get(kind).is_none_or(|best| weight(&this) < weight(best)) {
                         now.insert(kind, this);
                     }
                 }
