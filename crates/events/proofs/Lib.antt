@@ -1,0 +1,2 @@
+-- Laws that the walks cite.
+pub mod Filled

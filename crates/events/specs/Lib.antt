@@ -1,0 +1,2 @@
+-- What a slice of event records holds.
+pub mod Records
