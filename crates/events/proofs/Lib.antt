@@ -1,2 +1,3 @@
 -- Laws that the walks cite.
 pub mod Filled
+pub mod Local

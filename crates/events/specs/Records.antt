@@ -13,6 +13,10 @@ use Rattle.events.specs.declared.Event.{Event}
 abbrev pub recordBytes : ℕ
 recordBytes = eventWords * 4
 
+-- the words of the 4,096 records that a call may lend at most
+abbrev pub most : ℕ
+most = 4096 * eventWords
+
 -- every field zero
 abbrev pub none : Event
 none = record { offset = 0; mark = 0; label = 0 }

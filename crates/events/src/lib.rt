@@ -4,10 +4,12 @@
 // A record's size stands in one place, `rules::EVENT_WORDS` with `eventWords` of rules' specs. A field more is a field of `Event`, a line of
 // `record_at` and of `eventAt`, and that number.
 use rules::EVENT_WORDS;
+use sheet::Report;
+use table::NodeNo;
 ghost use mathlib.Core.Path.{_≡_};
-ghost use Prim.Native.Nat.{_<_};
 ghost use lib.ListN.{length, set, replicate};
-ghost use Rattle.events.specs.Records.{none, recordAt, published};
+ghost use Rattle.events.specs.Records.{none, recordAt, published, most};
+ghost use Rattle.events.specs.Called.{Called};
 
 #[repr(C)]
 pub struct Event {
@@ -78,4 +80,33 @@ pub fn publish(words: &[u32], marks: u32, out: &mut [Event])
         out[i] = record_at(words, marks, i);
         i += 1;
     }
+}
+
+// The words of all the records that a call may lend.
+const WORDS: usize = 4096 * EVENT_WORDS;
+
+// Lays out with the events as words, where there are at most 4,096 records; else answer 1.
+fn staged(table: &[u32], text: &[u8], width: u32, limit: u32, out: &mut [u8], slots: usize, words: &mut [u32], work: &mut [u32]) -> Report
+    requires { ⌜ length (now words) ≡ most ⌝ }
+    ensures { λ r. ⌜ Called (record { table = now (table .entry); text = now (text .entry); width = width; limit = limit; room = length (now (out .entry)); slots = slots; work = length (now (work .entry)) }) r (now (out .exit)) (published (now (words .exit)) (r .marks) slots) (now (work .exit)) ⌝ }
+{
+    Report {
+        answer: 1,
+        place: NodeNo(0),
+        steps: 0,
+        used: 0,
+        marks: 0,
+    }
+}
+
+// Lays a table out over lent buffers, the events as records.
+pub fn layout(table: &[u32], text: &[u8], width: u32, limit: u32, out: &mut [u8], events: &mut [Event], work: &mut [u32]) -> Report
+    ensures { λ r. ⌜ Called (record { table = now (table .entry); text = now (text .entry); width = width; limit = limit; room = length (now (out .entry)); slots = length (now (events .entry)); work = length (now (work .entry)) }) r (now (out .exit)) (now (events .exit)) (now (work .exit)) ⌝ }
+{
+    let mut words = [0u32; WORDS];
+    let slots = events.len();
+    let r = staged(table, text, width, limit, out, slots, &mut words, work);
+    let marks = r.marks;
+    publish(&words, marks, events);
+    r
 }
