@@ -1,3 +1,3 @@
 -- Laws of the code's state, for those who lay a table out.
 pub mod Events
-mod Arms
+pub mod Arms

@@ -16,6 +16,7 @@ use Rattle.lay.specs.State.{pageOf}
 use Rattle.lay.specs.Turning.{Turning}
 use Rattle.lay.specs.declared.State.{State}
 use Rattle.lay.specs.declared.Turn.{Turn}
+use Rattle.lay.specs.declared.Turn.the-variants.{Done}
 use Rattle.render.specs.Visit.{envOf, visited}
 
 -- several turns of the step function in one
@@ -31,10 +32,12 @@ abbrev pub upFrom : Limits → Turned → Turned
 upFrom L (on p left over w) = takeUp L p left over w
 upFrom L (stop a n left) = stop a n left
 
--- over a state that is well, and any output
+-- over a state that is well, and any output; a node that is done, with nothing in hand, leaves nothing waiting
 pub record TakenUp (s : State) (ev w : List ℕ) (r : Turn) (ev′ : List ℕ) : Type 0 where
   pub turning : (L : Limits) (out : List ℕ) (N : ℕ) → L .slots ≡ length ev / 3 → s .used ≤ length out → Stacked N (s .used) (s .marks) (stackOf (s .depth) w) → Turning r out ev′ w (takeUp L (pageOf s out ev) (s .left) (flagOf (s .over)) (stackOf (s .depth) w))
+  pub empty : (q : State) → r ≡ Done q → q .depth ≡ 0
 
 -- a visit, and what is taken up after it
 pub record TurnedUp (T tx out ev w : List ℕ) (W : ℕ) (s : State) (h : Hand) (r : Turn) (out′ ev′ w′ : List ℕ) : Type 0 where
   pub turning : (limit : ℕ) → Turning r out′ ev′ w′ (upFrom (envOf T tx out ev W limit .limits) (visited T tx out ev w W limit s h))
+  pub empty : (q : State) → r ≡ Done q → q .depth ≡ 0

@@ -2,9 +2,13 @@
 //
 // The node in hand is visited, then what waits is taken up: ends of annotations and of trials, until a node is in hand again or nothing waits.
 // Not an entry point of the library: the crate sheet tests sizes and the table before it comes here, and clears the buffers after it.
-use lay::{State, Turn};
-use table::{Column, Indent, NodeNo};
-use waiting::{Hand, Mode};
+use lay::State;
+use lay::Turn;
+use table::Column;
+use table::Indent;
+use table::NodeNo;
+use waiting::Hand;
+use waiting::Mode;
 ghost use Prim.Native.Nat.{_+_, _*_, _≤_, _<_};
 ghost use lib.ListN.{length};
 ghost use Rattle.render.specs.Visit.{Ready, Visited};
@@ -21,7 +25,16 @@ pub struct End {
 }
 
 // The node in hand is visited.
-fn visit(table: &[u32], text: &[u8], out: &mut [u8], events: &mut [u32], work: &mut [u32], width: u32, s: State, hand: Hand) -> Turn
+fn visit(
+    table: &[u32],
+    text: &[u8],
+    out: &mut [u8],
+    events: &mut [u32],
+    work: &mut [u32],
+    width: u32,
+    s: State,
+    hand: Hand,
+) -> Turn
     requires { ⌜ Ready (now table) (now text) (now out) (now events) (now work) width s hand ⌝ }
     ensures { λ r. ⌜ Visited (now (table .entry)) (now (text .entry)) (now (out .entry)) (now (events .entry)) (now (work .entry)) width s hand r (now (out .exit)) (now (events .exit)) (now (work .exit)) ⌝ }
 {
@@ -36,10 +49,21 @@ fn visit(table: &[u32], text: &[u8], out: &mut [u8], events: &mut [u32], work: &
         0 => Turn::Done(s),
         1 => lay::lay_append(work, s, hand, a, b),
         2 => lay::lay_group(table, work, width, s, hand, a),
-        3 => if mode.0 == 0 { Turn::Go(lay::child_of(hand, a), s) } else { Turn::Go(lay::child_of(hand, b), s) },
+        3 => if mode.0 == 0 {
+            Turn::Go(lay::child_of(hand, a), s)
+        } else {
+            Turn::Go(lay::child_of(hand, b), s)
+        },
         4 => {
             let indent = lay::nest_by(own, b, c);
-            Turn::Go(Hand { node: NodeNo(a), indent, mode }, s)
+            Turn::Go(
+                Hand {
+                    node: NodeNo(a),
+                    indent,
+                    mode,
+                },
+                s,
+            )
         }
         5 => lay::lay_hardline(out, work, s, own),
         6 => lay::lay_text(text, out, width, s, a, b, c),
@@ -48,7 +72,14 @@ fn visit(table: &[u32], text: &[u8], out: &mut [u8], events: &mut [u32], work: &
         9 => {
             let column = s.column;
             let indent = column.to_indent();
-            Turn::Go(Hand { node: NodeNo(a), indent, mode }, s)
+            Turn::Go(
+                Hand {
+                    node: NodeNo(a),
+                    indent,
+                    mode,
+                },
+                s,
+            )
         }
         _ => lay::lay_fail(work, s),
     }
@@ -85,7 +116,16 @@ fn take_up(events: &mut [u32], work: &[u32], state: State) -> Turn
 }
 
 // A visit, and what waits after it.
-fn turn(table: &[u32], text: &[u8], out: &mut [u8], events: &mut [u32], work: &mut [u32], width: u32, s: State, hand: Hand) -> Turn
+fn turn(
+    table: &[u32],
+    text: &[u8],
+    out: &mut [u8],
+    events: &mut [u32],
+    work: &mut [u32],
+    width: u32,
+    s: State,
+    hand: Hand,
+) -> Turn
     requires { ⌜ Ready (now table) (now text) (now out) (now events) (now work) width s hand ⌝ }
     ensures { λ r. ⌜ TurnedUp (now (table .entry)) (now (text .entry)) (now (out .entry)) (now (events .entry)) (now (work .entry)) width s hand r (now (out .exit)) (now (events .exit)) (now (work .exit)) ⌝ }
 {
@@ -97,7 +137,16 @@ fn turn(table: &[u32], text: &[u8], out: &mut [u8], events: &mut [u32], work: &m
 }
 
 // The run over a valid table of so many nodes: the root at indentation 0, broken.
-pub fn best(table: &[u32], text: &[u8], out: &mut [u8], events: &mut [u32], work: &mut [u32], width: u32, limit: u32, nodes: u32) -> End
+pub fn best(
+    table: &[u32],
+    text: &[u8],
+    out: &mut [u8],
+    events: &mut [u32],
+    work: &mut [u32],
+    width: u32,
+    limit: u32,
+    nodes: u32,
+) -> End
     requires { ⌜ Start (now table) (now text) (now out) (now events) (now work) width nodes ⌝ }
     ensures { λ r. ⌜ Laid (now (table .entry)) (now (text .entry)) (now (out .entry)) (now (events .entry)) width limit nodes r (now (out .exit)) (now (events .exit)) ⌝ }
 {

@@ -1,0 +1,198 @@
+-- The run: what the loop keeps, and how a turn keeps it.
+-- Assumes nothing.
+use mathlib.Core.Path.{_≡_, refl, sym, ap, _∙_, subst}
+use Prim.Native.Nat.{ℕ, suc, zero, _+_, _-_, _*_, _/_, _≤_, _<_}
+use native.Mathlib.Omega.{arith}
+use mathlib.Core.Bool.{Bool, true, false}
+use mathlib.Core.List.{List, [], _∷_}
+use lib.ListN.{length, take}
+use lib.Seq.{length-take-le}
+use lib.Dec.{ltb}
+use Rattle.table.specs.Pick.{pick}
+use Rattle.table.specs.Valid.{Valid}
+use Rattle.table.specs.declared.NodeNo.{NodeNo}
+use Rattle.rules.specs.Layout.{Page, Report, marked}
+use Rattle.machine.specs.Waiting.{Saved, Entry, node, trial, mark}
+use Rattle.machine.specs.Turn.{Env, Turned, on, stop, turn, run, layout, laid, ended}
+use Rattle.machine.specs.Well.{Well, Stacked, weight}
+use Rattle.machine.proofs.Kept.{Next, turn-next}
+use Rattle.waiting.specs.Stack.{flagOf, stackOf}
+use Rattle.waiting.specs.declared.Hand.{Hand}
+use Rattle.lay.specs.State.{handOf, top, eventsOf, pageOf}
+use Rattle.lay.specs.Turning.{turnedOf}
+use Rattle.lay.specs.declared.State.{State}
+use Rattle.lay.specs.declared.Turn.{Turn}
+use Rattle.lay.specs.declared.Turn.the-variants.{Go, Done, Stop}
+use Rattle.lay.proofs.Events.{length-events}
+use Rattle.render.specs.Visit.{Ready, envOf}
+use Rattle.render.specs.TakeUp.{takeUp, upFrom, TurnedUp}
+use Rattle.render.specs.Best.{Start, Laid}
+use Rattle.render.specs.declared.End.{End}
+
+-- ---- several turns of the step function in one
+
+module _ (E : Env) (N : ℕ) (valid : Valid (E .table) (length (E .str)) N) where
+  -- the report x is that of a run from t, which is well, has no more steps left than `left`, and a measure below `most`
+  abbrev pub Reaches : ℕ → ℕ → Report → Turned → Type 0
+  Reaches left most x (on p left′ o w) =
+      (turns : ℕ) × Well (E .limits) N p w × (left′ ≤ left) × (3 * left′ + weight w < turns) × (x ≡ run E turns p left′ o w) × (3 * left′ + weight w < most)
+  Reaches left most x (stop a n left′) = (left′ ≤ left) × (x ≡ ended E a n left′)
+
+  -- one turn
+  run-turn : (turns : ℕ) (p : Page) (left : ℕ) (o : Bool) (e : Entry) (w : List Entry) → Well (E .limits) N p (e ∷ w) → 3 * left + weight (e ∷ w) < turns → Reaches left (3 * left + weight (e ∷ w)) (run E turns p left o (e ∷ w)) (turn E p left o e w)
+  unfolding run
+  run-turn zero p left o e w q lt = absurd (omega arith)
+  run-turn (suc turns) p left o e w q lt = go (turn E p left o e w) (turn-next E N valid p left o e w q)
+    where
+      go : (t : Turned) → Next (E .limits) N left (3 * left + weight (e ∷ w)) t → Reaches left (3 * left + weight (e ∷ w)) (elim t [ on p′ left′ over′ w′ ↦ run E turns p′ left′ over′ w′ | stop a n left′ ↦ ended E a n left′ ]) t
+      go (on p′ left′ o′ w′) h = (turns, h .0, h .1, omega (arith, h .2), refl, h .2)
+      go (stop a n left′) h = (h .1, refl)
+
+  reaches-from : (left left′ most most′ : ℕ) (x y : Report) (t : Turned) → left ≤ left′ → most ≤ most′ → x ≡ y → Reaches left most y t → Reaches left′ most′ x t
+  reaches-from left left′ most most′ x y (on p l o w) le lm e h = (h .0, h .1, omega (arith, h .2), h .3, e ∙ h .4, omega (arith, h .5))
+  reaches-from left left′ most most′ x y (stop a n l) le lm e h = (omega (arith, h .0), e ∙ h .1)
+
+  -- what waits is taken up
+  run-up : (w : List Entry) (turns : ℕ) (p : Page) (left : ℕ) (o : Bool) → Well (E .limits) N p w → 3 * left + weight w < turns → Reaches left (suc (3 * left + weight w)) (run E turns p left o w) (takeUp (E .limits) p left o w)
+  unfolding takeUp turn
+  run-up [] turns p left o q lt = (turns, q, omega arith, lt, refl, omega arith)
+  run-up (node n i m ∷ w) turns p left o q lt = (turns, q, omega arith, lt, refl, omega arith)
+  run-up (trial b i m s ∷ w) turns p left true q lt =
+      let t = run-turn turns p left true (trial b i m s) w q lt in
+      (t .0, t .1, t .2, t .3, t .4, omega (arith, t .5))
+  run-up (trial b i m s ∷ w) turns p left false q lt =
+      let t = run-turn turns p left false (trial b i m s) w q lt in
+      reaches-from left left (suc (3 * left + weight w)) _ _ _ (takeUp (E .limits) p left (s .over) w) (omega arith) (omega (arith, t .5)) (t .4) (run-up w (t .0) p left (s .over) (t .1) (t .3))
+  run-up (mark n l ∷ w) turns p left o q lt =
+      by (ltb (length (p .events)) (E .limits .slots)) (λ turns′ q′ lt′. run-up w turns′ (marked 0 l p) left o q′ lt′) (run-turn turns p left o (mark n l) w q lt)
+    where
+      by : (b : Bool)
+          → ((turns′ : ℕ) → Well (E .limits) N (marked 0 l p) w → 3 * left + weight w < turns′ → Reaches left (suc (3 * left + weight w)) (run E turns′ (marked 0 l p) left o w) (takeUp (E .limits) (marked 0 l p) left o w))
+          → Reaches left (3 * left + weight (mark n l ∷ w)) (run E turns p left o (mark n l ∷ w)) (pick b (on (marked 0 l p) left o w) (stop 9 n left))
+          → Reaches left (suc (3 * left + weight (mark n l ∷ w))) (run E turns p left o (mark n l ∷ w)) (pick b (takeUp (E .limits) (marked 0 l p) left o w) (stop 9 n left))
+      by true ih t = reaches-from left left (suc (3 * left + weight w)) _ _ _ (takeUp (E .limits) (marked 0 l p) left o w) (omega arith) (omega (arith, t .5)) (t .4) (ih (t .0) (t .1) (t .3))
+      by false ih t = t
+
+  -- a visit, and what is taken up after it
+  pub run-on : (turns : ℕ) (p : Page) (left : ℕ) (o : Bool) (e : Entry) (w : List Entry) → Well (E .limits) N p (e ∷ w) → 3 * left + weight (e ∷ w) < turns → Reaches left (3 * left + weight (e ∷ w)) (run E turns p left o (e ∷ w)) (upFrom (E .limits) (turn E p left o e w))
+  run-on turns p left o e w q lt = go (turn E p left o e w) (run-turn turns p left o e w q lt)
+    where
+      go : (t : Turned) → Reaches left (3 * left + weight (e ∷ w)) (run E turns p left o (e ∷ w)) t → Reaches left (3 * left + weight (e ∷ w)) (run E turns p left o (e ∷ w)) (upFrom (E .limits) t)
+      go (on p′ left′ o′ w′) h = reaches-from left′ left (suc (3 * left′ + weight w′)) _ _ _ (takeUp (E .limits) p′ left′ o′ w′) (h .2) (omega (arith, h .5)) (h .4) (run-up w′ (h .0) p′ left′ o′ (h .1) (h .3))
+      go (stop a n left′) h = h
+
+-- ---- the loop
+
+module _ (T tx : List ℕ) (W limit N : ℕ) where
+  abbrev E : List ℕ → List ℕ → Env
+  E out ev = envOf T tx out ev W limit
+
+  -- out₀, ev₀, w₀ where the loop began; out, ev, w now; the node in hand and the state
+  pub record Going (out₀ ev₀ w₀ out ev w : List ℕ) (h : Hand) (s : State) : Type 0 where
+    pub start : Start T tx out ev w W N
+    pub outs : length out ≡ length out₀
+    pub evs : length ev ≡ length ev₀
+    pub works : length w ≡ length w₀
+    pub used : s .used ≤ length out
+    pub marks : s .marks * 3 ≤ length ev
+    pub well : Well (E out ev .limits) N (pageOf s out ev) (top h ∷ stackOf (s .depth) w)
+    pub left : s .left ≤ limit
+    pub turns : ℕ
+    pub enough : 3 * s .left + weight (top h ∷ stackOf (s .depth) w) < turns
+    pub said : run (E out ev) turns (pageOf s out ev) (s .left) (flagOf (s .over)) (top h ∷ stackOf (s .depth) w) ≡ layout (E out₀ ev₀) (N - 1)
+
+  pub going-start : (out ev w : List ℕ) → Start T tx out ev w W N
+      → Going out ev w out ev w (handOf (N - 1) 0 0) (record { column = record { 0 = 0 }; used = 0; marks = 0; left = limit; over = 0; depth = 0 })
+  unfolding layout eventsOf
+  going-start out ev w h =
+      record {
+        start = h;
+        outs = refl;
+        evs = refl;
+        works = refl;
+        used = omega arith;
+        marks = omega arith;
+        well = record { column = omega arith; fits = omega arith; room = h .room; stack = (omega (arith, h .some), omega (arith, h .some), tt) };
+        left = omega arith;
+        turns = 3 * limit + 2;
+        enough = omega arith;
+        said = refl;
+      }
+
+  module _ (out₀ ev₀ w₀ out ev w : List ℕ) (h : Hand) (s : State) (g : Going out₀ ev₀ w₀ out ev w h s) where
+    -- with no step left the node in hand is due
+    pub laid-due : s .left ≡ 0 → Laid T tx out₀ ev₀ W limit N (record { answer = 7; place = h .node; left = 0; used = 0; marks = 0 }) out ev
+    unfolding run turn eventsOf
+    laid-due e =
+        let f : g .turns ≡ suc (g .turns - 1) = omega (arith, g .enough) in
+        record { same = rw (f, e) at (g .said); used = omega arith; marks = omega arith; left = omega arith }
+
+    -- with a step left: the state that the turn starts from has one less
+    module _ (some : s .left ≡ 0 → ⊥) where
+      abbrev s₁ : State
+      s₁ = record { column = s .column; used = s .used; marks = s .marks; left = s .left - 1; over = s .over; depth = s .depth }
+
+      pub going-ready : Ready T tx out ev w W s₁ h
+      going-ready =
+          let u : length (take (s .used) out) ≡ s .used = length-take-le (s .used) out (g .used) in
+          record {
+            N = N;
+            valid = g .start .valid;
+            words = g .start .words;
+            small = g .start .small;
+            texts = g .start .texts;
+            room = g .start .room;
+            slots = g .start .slots;
+            area = g .start .area;
+            width = g .start .width;
+            used = g .used;
+            marks = g .marks;
+            column = rw u at (g .well .column);
+            stack = rw (u, length-events (s .marks) ev) at (g .well .stack);
+          }
+
+      module _ (r : Turn) (out′ ev′ w′ : List ℕ) (p : TurnedUp T tx out ev w W s₁ h r out′ ev′ w′) (eo : length out′ ≡ length out) (ee : length ev′ ≡ length ev) (ew : length w′ ≡ length w) where
+        -- where the turn leads, the run goes on
+        reach : Reaches (E out ev) N (g .start .valid) (s .left) (3 * s .left + weight (top h ∷ stackOf (s .depth) w)) (layout (E out₀ ev₀) (N - 1)) (turnedOf r out′ ev′ w′)
+        unfolding turn
+        reach =
+            let f : s .left ≡ suc (s .left - 1) = omega arith in
+            let t : Reaches (E out ev) N (g .start .valid) (suc (s .left - 1)) (3 * suc (s .left - 1) + weight (top h ∷ stackOf (s .depth) w)) (run (E out ev) (g .turns) (pageOf s out ev) (suc (s .left - 1)) (flagOf (s .over)) (top h ∷ stackOf (s .depth) w)) (turnedOf r out′ ev′ w′) =
+            rw (p .turning limit .same) (run-on (E out ev) N (g .start .valid) (g .turns) (pageOf s out ev) (suc (s .left - 1)) (flagOf (s .over)) (top h) (stackOf (s .depth) w) (g .well) (omega (arith, g .enough))) in
+            reaches-from (E out ev) N (g .start .valid) (suc (s .left - 1)) (s .left) _ _ _ _ (turnedOf r out′ ev′ w′) (omega arith) (omega arith) (sym (g .said) ∙ ap (λ (k : ℕ). run (E out ev) (g .turns) (pageOf s out ev) k (flagOf (s .over)) (top h ∷ stackOf (s .depth) w)) f) t
+
+        pub going-on : (c : Hand) (a : State) → r ≡ Go c a → Going out₀ ev₀ w₀ out′ ev′ w′ c a
+        going-on c a e =
+            let t = rw e at reach in
+            let q = rw e at (p .turning limit) in
+            record {
+              start = record { valid = g .start .valid; some = g .start .some; words = g .start .words; small = g .start .small; texts = g .start .texts; room = omega (arith, g .start .room); slots = omega (arith, g .start .slots); area = omega (arith, g .start .area); width = g .start .width };
+              outs = eo ∙ g .outs;
+              evs = ee ∙ g .evs;
+              works = ew ∙ g .works;
+              used = q .used;
+              marks = q .marks;
+              well = rw (eo, ee) (t .1);
+              left = omega (arith, t .2, g .left);
+              turns = t .0;
+              enough = t .3;
+              said = rw (eo, ee) (sym (t .4));
+            }
+
+        pub going-less : (c : Hand) (a : State) → r ≡ Go c a → 3 * a .left + weight (top c ∷ stackOf (a .depth) w′) < 3 * s .left + weight (top h ∷ stackOf (s .depth) w)
+        going-less c a e = let t = rw e at reach in t .5
+
+        pub laid-done : (a : State) → r ≡ Done a → Laid T tx out₀ ev₀ W limit N (record { answer = 0; place = record { 0 = 0 }; left = a .left; used = a .used; marks = a .marks }) out′ ev′
+        unfolding run
+        laid-done a e =
+            let t = rw e at reach in
+            let q = rw e at (p .turning limit) in
+            let z : stackOf (a .depth) w′ ≡ [] = ap (λ (k : ℕ). stackOf k w′) (p .empty a e) in
+            let f : t .0 ≡ suc (t .0 - 1) = omega (arith, t .3) in
+            record { same = sym (t .4 ∙ rw (z, f)); used = q .used; marks = q .marks; left = omega (arith, t .2, g .left) }
+
+        pub laid-stop : (a : ℕ) (n : NodeNo) (left : ℕ) → r ≡ Stop a n left → Laid T tx out₀ ev₀ W limit N (record { answer = a; place = n; left = left; used = 0; marks = 0 }) out′ ev′
+        unfolding eventsOf
+        laid-stop a n left e =
+            let t = rw e at reach in
+            record { same = sym (t .1); used = omega arith; marks = omega arith; left = omega (arith, t .0, g .left) }
