@@ -1,3 +1,4 @@
 -- Laws that the walks cite.
 pub mod Filled
 pub mod Local
+pub mod Published

@@ -9,7 +9,7 @@ use table::NodeNo;
 ghost use mathlib.Core.Path.{_≡_};
 ghost use lib.ListN.{length, set, replicate};
 ghost use Rattle.events.specs.Records.{none, recordAt, published, most};
-ghost use Rattle.events.specs.Called.{Called};
+ghost use Rattle.events.specs.Called.{asked, Called};
 
 #[repr(C)]
 pub struct Event {
@@ -88,7 +88,7 @@ const WORDS: usize = 4096 * EVENT_WORDS;
 // Lays out with the events as words, where there are at most 4,096 records; else answer 1.
 fn staged(table: &[u32], text: &[u8], width: u32, limit: u32, out: &mut [u8], slots: usize, words: &mut [u32], work: &mut [u32]) -> Report
     requires { ⌜ length (now words) ≡ most ⌝ }
-    ensures { λ r. ⌜ Called (record { table = now (table .entry); text = now (text .entry); width = width; limit = limit; room = length (now (out .entry)); slots = slots; work = length (now (work .entry)) }) r (now (out .exit)) (published (now (words .exit)) (r .marks) slots) (now (work .exit)) ⌝ }
+    ensures { λ r. ⌜ Called (asked (now (table .entry)) (now (text .entry)) width limit (length (now (out .entry))) slots (length (now (work .entry)))) r (now (out .exit)) (published (now (words .exit)) (r .marks) slots) (now (work .exit)) ⌝ }
 {
     Report {
         answer: 1,
@@ -101,7 +101,7 @@ fn staged(table: &[u32], text: &[u8], width: u32, limit: u32, out: &mut [u8], sl
 
 // Lays a table out over lent buffers, the events as records.
 pub fn layout(table: &[u32], text: &[u8], width: u32, limit: u32, out: &mut [u8], events: &mut [Event], work: &mut [u32]) -> Report
-    ensures { λ r. ⌜ Called (record { table = now (table .entry); text = now (text .entry); width = width; limit = limit; room = length (now (out .entry)); slots = length (now (events .entry)); work = length (now (work .entry)) }) r (now (out .exit)) (now (events .exit)) (now (work .exit)) ⌝ }
+    ensures { λ r. ⌜ Called (asked (now (table .entry)) (now (text .entry)) width limit (length (now (out .entry))) (length (now (events .entry))) (length (now (work .entry)))) r (now (out .exit)) (now (events .exit)) (now (work .exit)) ⌝ }
 {
     let mut words = [0u32; WORDS];
     let slots = events.len();
