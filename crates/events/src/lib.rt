@@ -82,21 +82,28 @@ pub fn publish(words: &[u32], marks: u32, out: &mut [Event])
     }
 }
 
-// The words of all the records that a call may lend.
-const WORDS: usize = 4096 * EVENT_WORDS;
+// The most records that a call may lend, and their words.
+const RECORDS: usize = 4096;
+const WORDS: usize = RECORDS * EVENT_WORDS;
 
-// Lays out with the events as words, where there are at most 4,096 records; else answer 1.
+// Lays out with the events as words, of which there are enough for the most records; more records than that are answer 1.
 fn staged(table: &[u32], text: &[u8], width: u32, limit: u32, out: &mut [u8], slots: usize, words: &mut [u32], work: &mut [u32]) -> Report
     requires { ⌜ length (now words) ≡ most ⌝ }
     ensures { λ r. ⌜ Called (asked (now (table .entry)) (now (text .entry)) width limit (length (now (out .entry))) slots (length (now (work .entry)))) r (now (out .exit)) (published (now (words .exit)) (r .marks) slots) (now (work .exit)) ⌝ }
 {
-    Report {
-        answer: 1,
-        place: NodeNo(0),
-        steps: 0,
-        used: 0,
-        marks: 0,
+    if RECORDS < slots {
+        buffer::clear_bytes(out);
+        buffer::clear_words(work);
+        return Report {
+            answer: 1,
+            place: NodeNo(0),
+            steps: 0,
+            used: 0,
+            marks: 0,
+        };
     }
+    let n = slots * EVENT_WORDS;
+    sheet::layout(table, text, width, limit, out, &mut words[..n], work)
 }
 
 // Lays a table out over lent buffers, the events as records.

@@ -1,0 +1,3 @@
+-- Laws of a whole call.
+mod Words
+mod Whole
