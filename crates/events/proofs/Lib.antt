@@ -2,3 +2,4 @@
 pub mod Filled
 pub mod Local
 pub mod Published
+pub mod Staging
