@@ -2,7 +2,7 @@
 --     put-none, put-more               nothing put; one more element stored behind what is put
 --     length-put                       the length is kept
 --     take-put, drop-put, front-put    the front up to the end of what is put, the rest behind it, the front before it
---     fill-more, fill-up, fill-end     a run of one value: a store more, and the run up to the end
+--     fill-none, fill-more, fill-up, fill-end   a loop that fills: before it, a store more, and up to the buffer's end
 --     copy-more                        a part of another list: a store more
 --     put-one, put-put, put-cons       a single store; a run put behind a run, and behind a single store
 -- Assumes nothing.
@@ -11,7 +11,7 @@ use mathlib.Core.List.{List, [], _∷_, _++_, append-assoc, append-nil}
 use Prim.Native.Nat.{ℕ, zero, suc, _+_, _-_, _≤_, _<_}
 use native.Mathlib.Numerals.{add-one}
 use native.Mathlib.Omega.{arith}
-use lib.ListN.{length, take, drop, set, replicate, getD, length-take, length-append, length-replicate, length-drop, take-append-drop, replicate-append-replicate, drop-of-length-le}
+use lib.ListN.{length, take, drop, set, replicate, getD, length-take, length-append, length-replicate, length-drop, length-set, take-append-drop, replicate-append-replicate, drop-of-length-le}
 use lib.Seq.{drop-cons, take-suc, take-at, drop-at, set-at, append-snoc, getD-drop, drop-drop, length-take-le}
 use Rattle.buffer.specs.Run.{put}
 
@@ -54,15 +54,23 @@ module _ {A : Type 0} (d : List A) (at : ℕ) where
 
   -- ---- what the loops store
 
-  pub fill-more : (v : A) (i : ℕ) → at + i < length d → set (put d at (replicate i v)) (at + i) v ≡ put d at (replicate (i + 1) v)
-  fill-more v i h = put-more (replicate i v) i v (length-replicate i v) h ∙ ap (put d at) (replicate-append-replicate i 1 v)
+  -- so far n times v stand in d from `at` on, and the buffer is this
+  abbrev pub Filling : A → ℕ → List A → Type 0
+  Filling v n buffer = (buffer ≡ put d at (replicate n v)) × (length buffer ≡ length d)
+
+  pub fill-none : (v : A) → Filling v 0 d
+  fill-none v = (sym put-none, refl)
+
+  pub fill-more : (v : A) (i : ℕ) (buffer : List A) → at + i < length d → Filling v i buffer → Filling v (i + 1) (set buffer (at + i) v)
+  fill-more v i buffer h f =
+      (ap (λ (l : List A). set l (at + i) v) (f .0) ∙ put-more (replicate i v) i v (length-replicate i v) h ∙ ap (put d at) (replicate-append-replicate i 1 v), simp length-set (f .1))
 
   -- the same, counted from the buffer's start
-  pub fill-up : (v : A) (i : ℕ) → at ≤ i → i < length d → set (put d at (replicate (i - at) v)) i v ≡ put d at (replicate (i + 1 - at) v)
-  fill-up v i le h =
-      let here : i ≡ at + (i - at) = omega arith in
+  pub fill-up : (v : A) (i : ℕ) (buffer : List A) → at ≤ i → i < length d → Filling v (i - at) buffer → Filling v (i + 1 - at) (set buffer i v)
+  fill-up v i buffer le h f =
+      let here : at + (i - at) ≡ i = omega arith in
       let next : i - at + 1 ≡ i + 1 - at = omega arith in
-      ap (λ (k : ℕ). set (put d at (replicate (i - at) v)) k v) here ∙ fill-more v (i - at) (omega arith) ∙ ap (λ (k : ℕ). put d at (replicate k v)) next
+      rw (here, next) at (fill-more v (i - at) buffer (omega arith) f)
 
   pub fill-end : (v : A) → put d at (replicate (length d - at) v) ≡ take at d ++ replicate (length d - at) v
   unfolding put

@@ -18,13 +18,13 @@ pub fn zero_bytes_from(dst: &mut [u8], at: usize)
 }
 
 // The same of words.
-pub fn zero_words_from(dst: &mut [u32], at: usize)
-    ensures { λ _. ⌜ now (dst .exit) ≡ zeroed (now (dst .entry)) at ⌝ }
+pub fn zero_words_from(words: &mut [u32], at: usize)
+    ensures { λ _. ⌜ now (words .exit) ≡ zeroed (now (words .entry)) at ⌝ }
 {
-    let mut i = at;
-    while i < dst.len() {
-        dst[i] = 0;
-        i += 1;
+    let mut w = at;
+    while w < words.len() {
+        words[w] = 0;
+        w += 1;
     }
 }
 
@@ -36,10 +36,10 @@ pub fn clear_bytes(dst: &mut [u8])
 }
 
 // Every word is 0.
-pub fn clear_words(dst: &mut [u32])
-    ensures { λ _. ⌜ now (dst .exit) ≡ replicate (length (now (dst .entry))) 0 ⌝ }
+pub fn clear_words(words: &mut [u32])
+    ensures { λ _. ⌜ now (words .exit) ≡ replicate (length (now (words .entry))) 0 ⌝ }
 {
-    zero_words_from(dst, 0);
+    zero_words_from(words, 0);
 }
 
 // n times the byte v from `at` on.
@@ -55,14 +55,14 @@ pub fn fill_bytes(dst: &mut [u8], at: usize, n: usize, v: u8)
 }
 
 // n times the word v from `at` on.
-pub fn fill_words(dst: &mut [u32], at: usize, n: usize, v: u32)
-    requires { ⌜ at + n ≤ length (now dst) ⌝ }
-    ensures { λ _. ⌜ now (dst .exit) ≡ put (now (dst .entry)) at (replicate n v) ⌝ }
+pub fn fill_words(words: &mut [u32], at: usize, n: usize, v: u32)
+    requires { ⌜ at + n ≤ length (now words) ⌝ }
+    ensures { λ _. ⌜ now (words .exit) ≡ put (now (words .entry)) at (replicate n v) ⌝ }
 {
-    let mut i = 0;
-    while i < n {
-        dst[at + i] = v;
-        i += 1;
+    let mut w = 0;
+    while w < n {
+        words[at + w] = v;
+        w += 1;
     }
 }
 
@@ -71,10 +71,10 @@ pub fn copy_bytes(src: &[u8], from: usize, n: usize, dst: &mut [u8], at: usize)
     requires { ⌜ (from + n ≤ length (now src)) × (at + n ≤ length (now dst)) ⌝ }
     ensures { λ _. ⌜ now (dst .exit) ≡ put (now (dst .entry)) at (take n (drop from (now (src .entry)))) ⌝ }
 {
-    let mut i = 0;
-    while i < n {
-        dst[at + i] = src[from + i];
-        i += 1;
+    let mut k = 0;
+    while k < n {
+        dst[at + k] = src[from + k];
+        k += 1;
     }
 }
 

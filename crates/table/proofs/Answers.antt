@@ -66,9 +66,9 @@ module _ (text : List ℕ) (n k a b c : ℕ) (info : KindInfo) (known : k < 11) 
       unfolding faultOf
       fault-none m ne = rw (lt-ltb k 11 known, ← entry, u, d, m, ne-eqb k 6 ne)
 
-      pub fault-text : nestInRange k b c ≡ true → k ≡ 6 → textFault text a b c ≡ faultOf text n k a b c
+      pub fault-text : (f : ℕ) → f ≡ textFault text a b c → nestInRange k b c ≡ true → k ≡ 6 → f ≡ faultOf text n k a b c
       unfolding faultOf
-      fault-text m e = rw (lt-ltb k 11 known, ← entry, u, d, m, eq-eqb k 6 e)
+      fault-text f t m e = rw (lt-ltb k 11 known, ← entry, u, d, m, eq-eqb k 6 e) t
 
 -- the words that the code reads are the node's
 pub fault-read : (table text : List ℕ) (n f : ℕ) → f ≡ faultOf text n (getD table (n * 4) 0) (getD table (n * 4 + 1) 0) (getD table (n * 4 + 2) 0) (getD table (n * 4 + 3) 0) → faultAt table text n ≡ f

@@ -8,6 +8,14 @@ use native.Mathlib.Nat.{add-zero, zero-add, add-suc, suc-add, not-suc-le-zero, l
 use lib.ListN.{length, getD}
 use Rattle.table.specs.Pick.{pick}
 
+pub and-end : (p : Bool) → p && true ≡ p
+and-end true = refl
+and-end false = refl
+
+pub and-false : (p : Bool) → p && false ≡ false
+and-false true = refl
+and-false false = refl
+
 pub and-true : (p q : Bool) → p && q ≡ true → (p ≡ true) × (q ≡ true)
 and-true true q e = (refl, e)
 and-true false q e = absurd (true≢false (sym e))

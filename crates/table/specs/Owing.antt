@@ -5,9 +5,9 @@ use mathlib.Core.Bool.{Bool, false}
 use mathlib.Core.List.{List, [], _∷_}
 use lib.ListN.{replicate}
 use Rattle.table.specs.Utf8.{Range, to, tail, Start, follow, never, owed}
-use Rattle.table.specs.declared.Owing.{Owing}
-use Rattle.table.specs.declared.Next.{Next}
-use Rattle.table.specs.declared.Next.the-variants.{Owes, Wrong}
+use Rattle.table.specs.declared.utf8.Owing.{Owing}
+use Rattle.table.specs.declared.utf8.Next.{Next}
+use Rattle.table.specs.declared.utf8.Next.the-variants.{Owes, Wrong}
 
 -- so many octets, the first between low and high, the others tails
 abbrev pub owing : ℕ → ℕ → ℕ → List Range

@@ -5,9 +5,12 @@ ghost use mathlib.Core.Path.{_≡_};
 ghost use Prim.Native.Nat.{_/_, _≤_, _<_};
 ghost use lib.ListN.{length};
 ghost use Rattle.table.specs.Kinds.{kinds, kindAt};
-ghost use Rattle.table.specs.Utf8.{wellFormed, ascii, start};
-ghost use Rattle.table.specs.Owing.{starts, GoesOn};
-ghost use Rattle.table.specs.Fault.{unusedZero, childrenBelow, nestInRange, columnsRight, faultOf, textFault, firstFault, sizesRight, check};
+ghost use Rattle.table.specs.Utf8.{ascii};
+ghost use Rattle.table.specs.Fault.{unusedZero, childrenBelow, nestInRange, faultOf, textFault, firstFault, sizesRight, check};
+use utf8::below_128;
+use utf8::columns_right;
+
+pub mod utf8;
 
 // How many children a kind has, and how many words it uses. Children and used words come first among a, b, c.
 pub struct KindInfo {
@@ -95,180 +98,54 @@ pub struct Fault {
     pub place: NodeNo,
 }
 
-// ---- text bytes
-
-// Whether all bytes are below 128. It reads to the end, so that it goes by whole blocks.
-fn below_128(bytes: &[u8]) -> bool
-    ensures { λ r. ⌜ r ≡ ascii (now (bytes .entry)) ⌝ }
-{
-    let mut low = true;
-    let mut i = 0;
-    while i < bytes.len() {
-        low = low & (bytes[i] < 128);
-        i += 1;
-    }
-    low
-}
-
-// What a character still owes: so many octets, the next between low and high, the others UTF8-tails.
-struct Owing {
-    count: u32,
-    low: u8,
-    high: u8,
-}
-
-// After an octet: what is owed, or that the octet can't stand there.
-enum Next {
-    Owes(Owing),
-    Wrong,
-}
-
-// What a first octet owes, by RFC 3629, section 4.
-fn start_of(b: u8) -> Next
-    ensures { λ r. ⌜ starts r ≡ start b ⌝ }
-{
-    if b <= 0x7F {
-        return Next::Owes(Owing {
-            count: 0,
-            low: 0x80,
-            high: 0xBF,
-        });
-    }
-    if b < 0xC2 {
-        return Next::Wrong;
-    }
-    if b <= 0xDF {
-        return Next::Owes(Owing {
-            count: 1,
-            low: 0x80,
-            high: 0xBF,
-        });
-    }
-    if b <= 0xE0 {
-        return Next::Owes(Owing {
-            count: 2,
-            low: 0xA0,
-            high: 0xBF,
-        });
-    }
-    if b <= 0xEC {
-        return Next::Owes(Owing {
-            count: 2,
-            low: 0x80,
-            high: 0xBF,
-        });
-    }
-    if b <= 0xED {
-        return Next::Owes(Owing {
-            count: 2,
-            low: 0x80,
-            high: 0x9F,
-        });
-    }
-    if b <= 0xEF {
-        return Next::Owes(Owing {
-            count: 2,
-            low: 0x80,
-            high: 0xBF,
-        });
-    }
-    if b <= 0xF0 {
-        return Next::Owes(Owing {
-            count: 3,
-            low: 0x90,
-            high: 0xBF,
-        });
-    }
-    if b <= 0xF3 {
-        return Next::Owes(Owing {
-            count: 3,
-            low: 0x80,
-            high: 0xBF,
-        });
-    }
-    if b <= 0xF4 {
-        return Next::Owes(Owing {
-            count: 3,
-            low: 0x80,
-            high: 0x8F,
-        });
-    }
-    Next::Wrong
-}
-
-// One octet.
-fn octet(o: Owing, b: u8) -> Next
-    ensures { λ r. ⌜ GoesOn o b r ⌝ }
-{
-    if o.count == 0 {
-        return start_of(b);
-    }
-    if b < o.low {
-        return Next::Wrong;
-    }
-    if o.high < b {
-        return Next::Wrong;
-    }
-    Next::Owes(Owing {
-        count: o.count - 1,
-        low: 0x80,
-        high: 0xBF,
-    })
-}
-
-// Whether the bytes are well-formed UTF-8 by RFC 3629.
-fn well_formed(bytes: &[u8]) -> bool
-    ensures { λ r. ⌜ r ≡ wellFormed (now (bytes .entry)) ⌝ }
-{
-    let mut o = Owing {
-        count: 0,
-        low: 0x80,
-        high: 0xBF,
-    };
-    let mut i = 0;
-    while i < bytes.len() {
-        let next = octet(o, bytes[i]);
-        let Next::Owes(p) = next else {
-            return false;
-        };
-        o = p;
-        i += 1;
-    }
-    o.count == 0
-}
-
-// Whether the columns of a Text with these bytes are right, and the bytes well-formed.
-fn columns_right(bytes: &[u8], c: u32) -> bool
-    ensures { λ r. ⌜ r ≡ columnsRight (now (bytes .entry)) c ⌝ }
-{
-    let columns = c as usize;
-    if below_128(bytes) {
-        return columns == bytes.len();
-    }
-    if well_formed(bytes) {
-        return columns <= bytes.len();
-    }
-    false
-}
-
 // ---- one node
 
+// Words that the kind doesn't use are 0.
 fn unused_zero(words: u32, a: u32, b: u32, c: u32) -> bool
     ensures { λ r. ⌜ r ≡ unusedZero words a b c ⌝ }
 {
-    ((1 <= words) | (a == 0)) & ((2 <= words) | (b == 0)) & ((3 <= words) | (c == 0))
+    if 3 <= words {
+        return true;
+    }
+    if c != 0 {
+        return false;
+    }
+    if 2 <= words {
+        return true;
+    }
+    if b != 0 {
+        return false;
+    }
+    if 1 <= words {
+        return true;
+    }
+    a == 0
 }
 
+// A child's number is below its parent's.
 fn children_below(n: u32, children: u32, a: u32, b: u32) -> bool
     ensures { λ r. ⌜ r ≡ childrenBelow n children a b ⌝ }
 {
-    ((children <= 0) | (a < n)) & ((children <= 1) | (b < n))
+    if children <= 0 {
+        return true;
+    }
+    if n <= a {
+        return false;
+    }
+    if children <= 1 {
+        return true;
+    }
+    b < n
 }
 
+// Amount 0 to 1,000; 0 adds, 1 subtracts.
 fn nest_in_range(k: u32, b: u32, c: u32) -> bool
     ensures { λ r. ⌜ r ≡ nestInRange k b c ⌝ }
 {
-    (k != 4) | ((b <= 1000) & (c <= 1))
+    if k != 4 {
+        return true;
+    }
+    (b <= 1000) & (c <= 1)
 }
 
 // A Text's range, then its bytes and columns. Where all of the text is below 128, so is every part of it.
@@ -330,7 +207,7 @@ fn first_fault(table: &[u32], text: &[u8], plain: bool) -> Fault
     requires { ⌜ (plain ≡ ascii (now text)) × (length (now table) ≤ 4096) ⌝ }
     ensures { λ r. ⌜ (r .answer ≡ firstFault (now (table .entry)) (now (text .entry)) (length (now (table .entry)) / 4) .answer) × (r .place .0 ≡ firstFault (now (table .entry)) (now (text .entry)) (length (now (table .entry)) / 4) .place) ⌝ }
 {
-    let kinds = KINDS;
+    let kinds = all_kinds();
     let nodes = table.len() / 4;
     let mut n = 0;
     while n < nodes {

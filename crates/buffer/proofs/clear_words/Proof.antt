@@ -15,7 +15,7 @@ same-length c = search needs
 
 returns : tie.Need-returns
 returns c =
-    let d = c .before .before .before .before .before .args .dst .now in
+    let d = c .before .before .before .before .before .args .words .now in
     let z : length d - 0 ≡ length d = omega arith in
     c .before .before .zero-words-from .ensures ∙ ap (λ (k : ℕ). replicate k 0) z
 

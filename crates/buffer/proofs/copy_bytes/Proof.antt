@@ -1,4 +1,4 @@
--- `buffer::copy_bytes` meets its contract: so far the first i bytes of the part stand from `at` on. Assumes nothing.
+-- `buffer::copy_bytes` meets its contract: so far the first k bytes of the part stand from `at` on. Assumes nothing.
 use borrow.Author.Needs.{needs}
 use native.Mathlib.Omega.{arith}
 use mathlib.Core.Path.{_≡_, refl, sym, ap, _∙_}
@@ -11,10 +11,10 @@ use Rattle.buffer.proofs.copy_bytes.Statement.{statement}
 use Rattle.buffer.proofs.copy_bytes.Tie as tie
 
 abbrev Inv-loop : tie.InvT-loop
-Inv-loop src from n dst₀ at i₀ dst i = (i ≤ n) × (dst ≡ put dst₀ at (take i (drop from src))) × (length dst ≡ length dst₀)
+Inv-loop src from n dst₀ at k₀ dst k = (k ≤ n) × (dst ≡ put dst₀ at (take k (drop from src))) × (length dst ≡ length dst₀)
 
 abbrev μ-loop : tie.MeasureT-loop
-μ-loop src from n dst₀ at i₀ dst i = n - i
+μ-loop src from n dst₀ at k₀ dst k = n - k
 
 loop-holds : tie.Need-loop-holds Inv-loop μ-loop
 loop-holds c = (omega arith, sym (put-none (c .args .dst .now) (c .args .at)), refl)
@@ -31,8 +31,8 @@ add-dst-2 c = search needs
 slice-write-dst : tie.Need-slice-write-dst Inv-loop μ-loop
 slice-write-dst c = search needs
 
-add-i : tie.Need-add-i Inv-loop μ-loop
-add-i c = search needs
+add-k : tie.Need-add-k Inv-loop μ-loop
+add-k c = search needs
 
 loop-less : tie.Need-loop-less Inv-loop μ-loop
 loop-less c = search needs
@@ -43,7 +43,7 @@ loop-again c =
     let a = c .before .before .before .args in
     let src = a .src .now in (
       omega arith,
-      ap (λ (l : List ℕ). set l (a .at + L .i) (getD src (a .from + L .i) 0)) (L .inv .1) ∙ copy-more (a .dst .now) (a .at) src (a .from) 0 (L .i) (omega arith) (omega arith),
+      ap (λ (l : List ℕ). set l (a .at + L .k) (getD src (a .from + L .k) 0)) (L .inv .1) ∙ copy-more (a .dst .now) (a .at) src (a .from) 0 (L .k) (omega arith) (omega arith),
       simp length-set (L .inv .2),
     )
 
@@ -54,8 +54,8 @@ returns : tie.Need-returns Inv-loop μ-loop
 returns c =
     let L = c .before .loop in
     let a = c .before .before .args in
-    let e : L .i ≡ a .n = omega arith in
-    L .inv .1 ∙ ap (λ (k : ℕ). put (a .dst .now) (a .at) (take k (drop (a .from) (a .src .now)))) e
+    let e : L .k ≡ a .n = omega arith in
+    L .inv .1 ∙ ap (λ (m : ℕ). put (a .dst .now) (a .at) (take m (drop (a .from) (a .src .now)))) e
 
 pub copy-bytes-spec : {M : Type 1} → statement M
 copy-bytes-spec =
@@ -68,7 +68,7 @@ copy-bytes-spec =
     shared-slice-read-dst
     add-dst-2
     slice-write-dst
-    add-i
+    add-k
     loop-less
     loop-again
     same-length

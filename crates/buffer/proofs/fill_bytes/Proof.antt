@@ -1,23 +1,22 @@
 -- `buffer::fill_bytes` meets its contract: so far i bytes stand from `at` on. Assumes nothing.
 use borrow.Author.Needs.{needs}
 use native.Mathlib.Omega.{arith}
-use mathlib.Core.Path.{_≡_, refl, sym, ap, _∙_}
-use mathlib.Core.List.{List}
-use Prim.Native.Nat.{ℕ, _+_, _-_, _≤_, _<_}
-use lib.ListN.{length, set, replicate, length-set}
+use mathlib.Core.Path.{_≡_, ap, _∙_}
+use Prim.Native.Nat.{ℕ, _-_, _≤_}
+use lib.ListN.{replicate}
 use Rattle.buffer.specs.Run.{put}
-use Rattle.buffer.proofs.Put.{put-none, fill-more}
+use Rattle.buffer.proofs.Put.{Filling, fill-none, fill-more}
 use Rattle.buffer.proofs.fill_bytes.Statement.{statement}
 use Rattle.buffer.proofs.fill_bytes.Tie as tie
 
 abbrev Inv-loop : tie.InvT-loop
-Inv-loop dst₀ at n v i₀ dst i = (i ≤ n) × (dst ≡ put dst₀ at (replicate i v)) × (length dst ≡ length dst₀)
+Inv-loop dst₀ at n v i₀ dst i = (i ≤ n) × Filling dst₀ at v i dst
 
 abbrev μ-loop : tie.MeasureT-loop
 μ-loop dst₀ at n v i₀ dst i = n - i
 
 loop-holds : tie.Need-loop-holds Inv-loop μ-loop
-loop-holds c = (omega arith, sym (put-none (c .args .dst .now) (c .args .at)), refl)
+loop-holds c = (omega arith, fill-none (c .args .dst .now) (c .args .at) (c .args .v))
 
 add-dst : tie.Need-add-dst Inv-loop μ-loop
 add-dst c = search needs
@@ -34,11 +33,8 @@ loop-less c = search needs
 loop-again : tie.Need-loop-again Inv-loop μ-loop
 loop-again c =
     let L = c .before .loop in
-    let a = c .before .before .args in (
-      omega arith,
-      ap (λ (l : List ℕ). set l (a .at + L .i) (a .v)) (L .inv .1) ∙ fill-more (a .dst .now) (a .at) (a .v) (L .i) (omega arith),
-      simp length-set (L .inv .2),
-    )
+    let a = c .before .before .args in
+    (omega arith, fill-more (a .dst .now) (a .at) (a .v) (L .i) (L .dst) (omega arith) (L .inv .1))
 
 same-length : tie.Need-same-length Inv-loop μ-loop
 same-length c = search needs
@@ -48,7 +44,7 @@ returns c =
     let L = c .before .loop in
     let a = c .before .before .args in
     let e : L .i ≡ a .n = omega arith in
-    L .inv .1 ∙ ap (λ (k : ℕ). put (a .dst .now) (a .at) (replicate k (a .v))) e
+    L .inv .1 .0 ∙ ap (λ (k : ℕ). put (a .dst .now) (a .at) (replicate k (a .v))) e
 
 pub fill-bytes-spec : {M : Type 1} → statement M
 fill-bytes-spec =

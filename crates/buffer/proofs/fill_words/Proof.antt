@@ -1,35 +1,34 @@
--- `buffer::fill_words` meets its contract: so far i words stand from `at` on. Assumes nothing.
+-- `buffer::fill_words` meets its contract: so far w words stand from `at` on. Assumes nothing.
 use borrow.Author.Needs.{needs}
 use native.Mathlib.Omega.{arith}
-use mathlib.Core.Path.{_≡_, refl, sym, ap, _∙_}
-use mathlib.Core.List.{List}
-use Prim.Native.Nat.{ℕ, _+_, _-_, _≤_, _<_}
-use lib.ListN.{length, set, replicate, length-set}
+use mathlib.Core.Path.{_≡_, ap, _∙_}
+use Prim.Native.Nat.{ℕ, _-_, _≤_}
+use lib.ListN.{replicate}
 use Rattle.buffer.specs.Run.{put}
-use Rattle.buffer.proofs.Put.{put-none, fill-more}
+use Rattle.buffer.proofs.Put.{Filling, fill-none, fill-more}
 use Rattle.buffer.proofs.fill_words.Statement.{statement}
 use Rattle.buffer.proofs.fill_words.Tie as tie
 
 abbrev Inv-loop : tie.InvT-loop
-Inv-loop dst₀ at n v i₀ dst i = (i ≤ n) × (dst ≡ put dst₀ at (replicate i v)) × (length dst ≡ length dst₀)
+Inv-loop words₀ at n v w₀ words w = (w ≤ n) × Filling words₀ at v w words
 
 abbrev μ-loop : tie.MeasureT-loop
-μ-loop dst₀ at n v i₀ dst i = n - i
+μ-loop words₀ at n v w₀ words w = n - w
 
 loop-holds : tie.Need-loop-holds Inv-loop μ-loop
-loop-holds c = (omega arith, sym (put-none (c .args .dst .now) (c .args .at)), refl)
+loop-holds c = (omega arith, fill-none (c .args .words .now) (c .args .at) (c .args .v))
 
-add-dst : tie.Need-add-dst Inv-loop μ-loop
-add-dst c = search needs
+add-words : tie.Need-add-words Inv-loop μ-loop
+add-words c = search needs
 
-mul-dst : tie.Need-mul-dst Inv-loop μ-loop
-mul-dst c = search needs
+mul-words : tie.Need-mul-words Inv-loop μ-loop
+mul-words c = search needs
 
-slice-write-dst : tie.Need-slice-write-dst Inv-loop μ-loop
-slice-write-dst c = search needs
+slice-write-words : tie.Need-slice-write-words Inv-loop μ-loop
+slice-write-words c = search needs
 
-add-i : tie.Need-add-i Inv-loop μ-loop
-add-i c = search needs
+add-w : tie.Need-add-w Inv-loop μ-loop
+add-w c = search needs
 
 loop-less : tie.Need-loop-less Inv-loop μ-loop
 loop-less c = search needs
@@ -37,11 +36,8 @@ loop-less c = search needs
 loop-again : tie.Need-loop-again Inv-loop μ-loop
 loop-again c =
     let L = c .before .loop in
-    let a = c .before .before .args in (
-      omega arith,
-      ap (λ (l : List ℕ). set l (a .at + L .i) (a .v)) (L .inv .1) ∙ fill-more (a .dst .now) (a .at) (a .v) (L .i) (omega arith),
-      simp length-set (L .inv .2),
-    )
+    let a = c .before .before .args in
+    (omega arith, fill-more (a .words .now) (a .at) (a .v) (L .w) (L .words) (omega arith) (L .inv .1))
 
 same-length : tie.Need-same-length Inv-loop μ-loop
 same-length c = search needs
@@ -50,8 +46,8 @@ returns : tie.Need-returns Inv-loop μ-loop
 returns c =
     let L = c .before .loop in
     let a = c .before .before .args in
-    let e : L .i ≡ a .n = omega arith in
-    L .inv .1 ∙ ap (λ (k : ℕ). put (a .dst .now) (a .at) (replicate k (a .v))) e
+    let e : L .w ≡ a .n = omega arith in
+    L .inv .1 .0 ∙ ap (λ (k : ℕ). put (a .words .now) (a .at) (replicate k (a .v))) e
 
 pub fill-words-spec : {M : Type 1} → statement M
 fill-words-spec =
@@ -60,10 +56,10 @@ fill-words-spec =
     Inv-loop
     μ-loop
     loop-holds
-    add-dst
-    mul-dst
-    slice-write-dst
-    add-i
+    add-words
+    mul-words
+    slice-write-words
+    add-w
     loop-less
     loop-again
     same-length

@@ -1,35 +1,34 @@
--- `buffer::zero_words_from` meets its contract: so far words are 0 from `at` up to i. Assumes nothing.
+-- `buffer::zero_words_from` meets its contract: so far words are 0 from `at` up to w. Assumes nothing.
 use borrow.Author.Needs.{needs}
 use native.Mathlib.Omega.{arith}
-use mathlib.Core.Path.{_≡_, refl, sym, ap, _∙_}
-use mathlib.Core.List.{List}
-use Prim.Native.Nat.{ℕ, _+_, _-_, _≤_, _<_}
-use lib.ListN.{length, set, replicate, length-set}
+use mathlib.Core.Path.{_≡_, ap, _∙_}
+use Prim.Native.Nat.{ℕ, _-_, _≤_}
+use lib.ListN.{length, replicate}
 use Rattle.buffer.specs.Run.{put}
-use Rattle.buffer.proofs.Put.{put-none, fill-up, fill-end}
+use Rattle.buffer.proofs.Put.{Filling, fill-none, fill-up, fill-end}
 use Rattle.buffer.proofs.zero_words_from.Statement.{statement}
 use Rattle.buffer.proofs.zero_words_from.Tie as tie
 
 abbrev Inv-loop : tie.InvT-loop
-Inv-loop dst₀ at i₀ dst i = (at ≤ i) × (i - at ≤ length dst₀ - at) × (dst ≡ put dst₀ at (replicate (i - at) 0)) × (length dst ≡ length dst₀)
+Inv-loop words₀ at w₀ words w = (at ≤ w) × (w - at ≤ length words₀ - at) × Filling words₀ at 0 (w - at) words
 
 abbrev μ-loop : tie.MeasureT-loop
-μ-loop dst₀ at i₀ dst i = length dst₀ - i
+μ-loop words₀ at w₀ words w = length words₀ - w
 
 loop-holds : tie.Need-loop-holds Inv-loop μ-loop
 loop-holds c =
     let a = c .args in
-    let z : a .at - a .at ≡ 0 = omega arith in
-    (omega arith, omega arith, sym (put-none (a .dst .now) (a .at)) ∙ ap (λ (k : ℕ). put (a .dst .now) (a .at) (replicate k 0)) (sym z), refl)
+    let z : 0 ≡ a .at - a .at = omega arith in
+    (omega arith, omega arith, rw (← z) (fill-none (a .words .now) (a .at) 0))
 
-mul-dst : tie.Need-mul-dst Inv-loop μ-loop
-mul-dst c = search needs
+mul-words : tie.Need-mul-words Inv-loop μ-loop
+mul-words c = search needs
 
-slice-write-dst : tie.Need-slice-write-dst Inv-loop μ-loop
-slice-write-dst c = search needs
+slice-write-words : tie.Need-slice-write-words Inv-loop μ-loop
+slice-write-words c = search needs
 
-add-i : tie.Need-add-i Inv-loop μ-loop
-add-i c = search needs
+add-w : tie.Need-add-w Inv-loop μ-loop
+add-w c = search needs
 
 loop-less : tie.Need-loop-less Inv-loop μ-loop
 loop-less c = search needs
@@ -37,10 +36,8 @@ loop-less c = search needs
 loop-again : tie.Need-loop-again Inv-loop μ-loop
 loop-again c =
     let L = c .before .loop in
-    let d = c .before .before .args .dst .now in
-    let at = c .before .before .args .at in
-    let lt : L .i < length d = omega arith in
-    (omega arith, omega arith, ap (λ (l : List ℕ). set l (L .i) 0) (L .inv .2) ∙ fill-up d at 0 (L .i) (L .inv .0) lt, simp length-set (L .inv .3))
+    let a = c .before .before .args in
+    (omega arith, omega arith, fill-up (a .words .now) (a .at) 0 (L .w) (L .words) (L .inv .0) (omega arith) (L .inv .2))
 
 same-length : tie.Need-same-length Inv-loop μ-loop
 same-length c = search needs
@@ -48,10 +45,9 @@ same-length c = search needs
 returns : tie.Need-returns Inv-loop μ-loop
 returns c =
     let L = c .before .loop in
-    let d = c .before .before .args .dst .now in
-    let at = c .before .before .args .at in
-    let e : L .i - at ≡ length d - at = omega arith in
-    L .inv .2 ∙ ap (λ (k : ℕ). put d at (replicate k 0)) e ∙ fill-end d at 0
+    let a = c .before .before .args in
+    let e : L .w - a .at ≡ length (a .words .now) - a .at = omega arith in
+    L .inv .2 .0 ∙ ap (λ (k : ℕ). put (a .words .now) (a .at) (replicate k 0)) e ∙ fill-end (a .words .now) (a .at) 0
 
 pub zero-words-from-spec : {M : Type 1} → statement M
 zero-words-from-spec =
@@ -60,9 +56,9 @@ zero-words-from-spec =
     Inv-loop
     μ-loop
     loop-holds
-    mul-dst
-    slice-write-dst
-    add-i
+    mul-words
+    slice-write-words
+    add-w
     loop-less
     loop-again
     same-length

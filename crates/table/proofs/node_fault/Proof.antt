@@ -56,9 +56,11 @@ returns-5 : tie.Need-returns-5
 returns-5 c =
     let a = c .before .before .before .before .before .before .before .before .before .args in
     let pre = c .before .before .before .before .before .before .before .before .before .pre in
-    c .text-fault .ensures ∙ fault-text (a .text .now) (a .n) (a .k) (a .a) (a .b) (a .c) (a .info) (pre .1) (pre .2)
+    fault-text (a .text .now) (a .n) (a .k) (a .a) (a .b) (a .c) (a .info) (pre .1) (pre .2)
     (sym (c .before .before .before .before .before .before .before .unused-zero .ensures) ∙ not-false _ (c .before .before .before .before .before .before .if1 .left))
     (sym (c .before .before .before .before .before .children-below .ensures) ∙ not-false _ (c .before .before .before .before .if2 .left))
+    (c .text-fault .result)
+    (c .text-fault .ensures)
     (sym (c .before .before .before .nest-in-range .ensures) ∙ not-false _ (c .before .before .if3 .left))
     (c .before .if4 .left)
 

@@ -1,0 +1,49 @@
+-- `group`: given back or wrapped.
+use borrow.Author.Needs.{needs}
+use mathlib.Core.Path.{_≡_, refl, sym, _∙_}
+use mathlib.Core.Bool.{true}
+use Rattle.build.specs.Sheet.{counted, older, add}
+use Rattle.build.proofs.Stand.{made-same}
+use Rattle.build.specs.Parts.{group}
+use Rattle.build.proofs.Choices.{group-stays, group-wraps}
+use Rattle.build.proofs.Counts.group.Statement.{statement}
+use Rattle.build.proofs.Counts.group.Tie as tie
+
+has-requires : tie.Need-has-requires
+has-requires c κs = search needs
+
+stays-requires : tie.Need-stays-requires
+stays-requires c κs = search needs
+
+older-requires : tie.Need-older-requires
+older-requires c κs = search needs
+
+same-length : tie.Need-same-length
+same-length c = search needs
+
+returns : tie.Need-returns
+unfolding counted
+returns c = simp (← (c .before .before .before .before .before .has .ensures)) (c .older .ensures ∙ sym (made-same (c .before .before .before .before .before .before .before .before .args .self) (c .before .before .before .before .before .before .before .before .args .table .now) (c .before .before .before .before .before .before .before .before .args .text .now) (c .before .before .before .before .before .has .result) true true (λ s. group s (c .before .before .before .before .before .before .before .before .args .n .0)) (λ s. older s (c .before .before .before .before .before .before .before .before .args .n .0)) (group-stays (counted (c .before .before .before .before .before .before .before .before .args .self) (c .before .before .before .before .before .before .before .before .args .table .now) (c .before .before .before .before .before .before .before .before .args .text .now)) (c .before .before .before .before .before .before .before .before .args .n .0) (sym (c .before .before .before .stays .ensures) ∙ c .before .before .if1 .taken))))
+
+node-requires : tie.Need-node-requires
+node-requires c κs = search needs
+
+same-length-2 : tie.Need-same-length-2
+same-length-2 c = search needs
+
+returns-2 : tie.Need-returns-2
+unfolding counted
+returns-2 c = simp (← (c .before .before .before .before .before .before .before .has .ensures)) (c .before .before .node .ensures ∙ sym (made-same (c .before .before .before .before .before .before .before .before .before .before .args .self) (c .before .before .before .before .before .before .before .before .before .before .args .table .now) (c .before .before .before .before .before .before .before .before .before .before .args .text .now) (c .before .before .before .before .before .before .before .has .result) true true (λ s. group s (c .before .before .before .before .before .before .before .before .before .before .args .n .0)) (λ s. add s 2 (c .before .before .before .before .before .before .before .before .before .before .args .n .0) 0 0) (group-wraps (counted (c .before .before .before .before .before .before .before .before .before .before .args .self) (c .before .before .before .before .before .before .before .before .before .before .args .table .now) (c .before .before .before .before .before .before .before .before .before .before .args .text .now)) (c .before .before .before .before .before .before .before .before .before .before .args .n .0) (sym (c .before .before .before .before .before .stays .ensures) ∙ c .before .before .before .before .if1 .left))))
+
+pub group-spec : {M : Type 1} → statement M
+group-spec =
+    tie.close
+    (tie.spec
+    has-requires
+    stays-requires
+    older-requires
+    same-length
+    returns
+    node-requires
+    same-length-2
+    returns-2)

@@ -1,0 +1,47 @@
+-- `word`: a word of a counted node.
+use borrow.Author.Needs.{needs}
+use Prim.Native.Nat.{ℕ, _+_, _-_, _*_, _≤_, _<_}
+use native.Mathlib.Omega.{arith}
+use mathlib.Core.Path.{_≡_, refl, sym, ap, _∙_}
+use lib.ListN.{length, getD, take}
+use lib.Seq.{getD-take}
+use Rattle.build.proofs.Lists.{word-out, word-past}
+use Rattle.build.proofs.Counts.word.Statement.{statement}
+use Rattle.build.proofs.Counts.word.Tie as tie
+
+cast-at : tie.Need-cast-at
+cast-at c = search needs
+
+mul-at : tie.Need-mul-at
+mul-at c = search needs
+
+add-at : tie.Need-add-at
+add-at c = search needs
+
+returns : tie.Need-returns
+returns c = word-out (c .before .before .args .table .now) (c .before .before .args .self .nodes * 4) (c .before .before .args .n .0 * 4 + c .before .before .args .i) (omega arith)
+
+returns-2 : tie.Need-returns-2
+returns-2 c = word-past (c .before .before .before .args .table .now) (c .before .before .before .args .self .nodes * 4) (c .before .before .before .args .n .0 * 4 + c .before .before .before .args .i) (c .if2 .taken)
+
+mul-result : tie.Need-mul-result
+mul-result c = search needs
+
+shared-slice-read-result : tie.Need-shared-slice-read-result
+shared-slice-read-result c = search needs
+
+returns-3 : tie.Need-returns-3
+returns-3 c = sym (getD-take (c .before .before .before .before .args .self .nodes * 4) (c .before .before .before .before .args .table .now) (c .before .before .before .before .args .n .0 * 4 + c .before .before .before .before .args .i) 0 (omega arith))
+
+pub word-spec : {M : Type 1} → statement M
+word-spec =
+    tie.close
+    (tie.spec
+    cast-at
+    mul-at
+    add-at
+    returns
+    returns-2
+    mul-result
+    shared-slice-read-result
+    returns-3)

@@ -1,0 +1,16 @@
+-- The laws of the constructors, with no code in sight.
+pub mod Grow
+mod Lists
+mod Room
+mod Stand
+mod Leaf
+mod Choices
+mod Lines
+mod Texts
+mod Words
+mod Joins
+mod Softlines
+mod Hangs
+mod Concats
+mod Separated
+mod Indents

@@ -1,0 +1,87 @@
+-- FlatAlt of a Hardline and one node more, part by part: `line` with a blank, `line_` with Nil. Assumes nothing.
+use Prim.Native.Nat.{ℕ, _+_, _*_, _/_, _≤_, _<_}
+use native.Mathlib.Omega.{arith}
+use native.Mathlib.Nat.{add-zero}
+use mathlib.Core.Path.{_≡_, refl, sym, ap, _∙_}
+use mathlib.Core.Bool.{Bool, true, _&&_}
+use mathlib.Core.List.{List, [], _∷_}
+use lib.ListN.{length}
+use lib.Dec.{ltb}
+use borrow.Author.Tests.{lt-ltb}
+use Rattle.table.specs.declared.NodeNo.{NodeNo}
+use Rattle.build.specs.declared.Counts.{Counts}
+use Rattle.build.specs.declared.Why.{Why}
+use Rattle.build.specs.declared.Made.{Made}
+use Rattle.build.specs.declared.Made.the-variants.{Node, Refused}
+use Rattle.build.specs.declared.Asked.the-variants.{Granted, Denied}
+use Rattle.build.specs.Sheet.{Sheet, Built, countsOf, counted}
+use Rattle.build.specs.Parts.{nil, text, space, hardline, flatAlt}
+use Rattle.build.specs.Outcome.{asked, outcome, made}
+use Rattle.build.specs.Constructors.{has, plainMade, hardlineMade, flatAltMade}
+use Rattle.build.proofs.Grow.{Grown, same, then, add-grown, text-grown}
+use Rattle.build.proofs.Stand.{Went, taken, refuse, Begun, begin, step, finish}
+
+-- one node and k bytes
+pub record One (flat : Sheet → Built) (k : ℕ) : Type 0 where
+  pub grows : (s : Sheet) → Grown s (flat s .sheet)
+  pub counts : (s : Sheet) → flat s .sheet .counts ≡ countsOf (s .counts .nodes + 1) (s .counts .bytes + k)
+  pub new : (s : Sheet) → flat s .node ≡ s .counts .nodes
+
+pub nil-one : One nil 0
+nil-one = record { grows = λ s. add-grown s 0 0 0 0; counts = λ s. ap (countsOf (s .counts .nodes + 1)) (sym (add-zero (s .counts .bytes))); new = λ s. refl }
+
+pub space-one : One space 1
+unfolding text
+space-one = record { grows = λ s. text-grown s (32 ∷ []) 1; counts = λ s. refl; new = λ s. refl }
+
+module _ (c : Counts) (table text : List ℕ) {flat : Sheet → Built} {k : ℕ} (one : One flat k) where
+  abbrev pub whole : Sheet → Built
+  whole s =
+      let broken = hardline s in
+      let other = flat (broken .sheet) in
+      flatAlt (other .sheet) (broken .node) (other .node)
+
+  abbrev s₀ : Sheet
+  s₀ = counted c table text
+
+  abbrev s₁ : Sheet
+  s₁ = hardline s₀ .sheet
+
+  abbrev s₂ : Sheet
+  s₂ = flat s₁ .sheet
+
+  right-counts : c .nodes ≤ length table / 4 → c .bytes ≤ length text → true ≡ true → (whole s₀ .sheet .counts .nodes ≡ c .nodes + 3) × (whole s₀ .sheet .counts .bytes ≡ c .bytes + k)
+  unfolding counted
+  right-counts n b t =
+      let e = one .counts s₁ in
+      (omega (arith, ap (λ (x : Counts). x .nodes) e), omega (arith, ap (λ (x : Counts). x .bytes) e))
+
+  pub line-refused : (why : Why) → asked c (length table) (length text) true true true (c .nodes + 3) (c .bytes + k) ≡ Denied why → outcome (Refused why) table text ≡ plainMade c table text whole
+  line-refused why d = refuse c table text true true true whole _ _ right-counts why d
+
+  module _ (granted : asked c (length table) (length text) true true true (c .nodes + 3) (c .bytes + k) ≡ Granted) where
+    last : Grown s₂ (whole s₀ .sheet)
+    last = add-grown s₂ 3 (hardline s₀ .node) (flat s₁ .node) 0
+
+    begun : Begun c table text true true true whole
+    begun = begin c table text true true true whole (c .nodes + 3) (c .bytes + k) right-counts (then (add-grown s₀ 5 0 0 0) (then (one .grows s₁) last)) granted
+
+    pub line-first : {m : Made} {table′ text′ : List ℕ} → outcome m table′ text′ ≡ hardlineMade c table text → Went table text (hardline s₀) m table′ text′
+    line-first o = step begun (begun .stands) hardline (same s₀) (add-grown s₀ 5 0 0 0) (then (one .grows s₁) last) refl refl refl o
+
+    module _ {m : Made} {table₁ text₁ : List ℕ} (went : Went table text (hardline s₀) m table₁ text₁) {c₁ : Counts} {n₁ : NodeNo} (e : m ≡ Node c₁ n₁) where
+      pub line-second : {m₂ : Made} {table₂ text₂ : List ℕ} → outcome m₂ table₂ text₂ ≡ plainMade c₁ table₁ text₁ flat → Went table text (flat s₁) m₂ table₂ text₂
+      line-second o = step begun (taken went e .0) flat (add-grown s₀ 5 0 0 0) (one .grows s₁) last refl refl refl o
+
+      module _ {m₂ : Made} {table₂ text₂ : List ℕ} (went₂ : Went table text (flat s₁) m₂ table₂ text₂) {c₂ : Counts} {n₂ : NodeNo} (e₂ : m₂ ≡ Node c₂ n₂) where
+        operands : has c₂ (hardline s₀ .node) && has c₂ (flat s₁ .node) ≡ true
+        unfolding counted
+        operands =
+            let b = one .new s₁ in
+            let d = ap (λ (x : Counts). x .nodes) (taken went₂ e₂ .0 .counts ∙ one .counts s₁) in
+            rw (lt-ltb (c .nodes) (c₂ .nodes) (omega arith), lt-ltb (flat s₁ .node) (c₂ .nodes) (omega arith)) refl
+
+        pub line-last : {m₃ : Made} {table₃ text₃ : List ℕ} → outcome m₃ table₃ text₃ ≡ flatAltMade c₂ table₂ text₂ (n₁ .0) (n₂ .0) → outcome m₃ table₃ text₃ ≡ plainMade c table text whole
+        line-last o =
+            let o′ = rw (taken went e .1, taken went₂ e₂ .1) at o in
+            finish begun (step begun (taken went₂ e₂ .0) (λ s. flatAlt s (hardline s₀ .node) (flat s₁ .node)) (then (add-grown s₀ 5 0 0 0) (one .grows s₁)) last (same (whole s₀ .sheet)) operands refl refl o′)

@@ -1,0 +1,83 @@
+-- A line and its group, part by part: `softline` with a blank, `softline_` with Nil. Assumes nothing.
+use Prim.Native.Nat.{ℕ, _+_, _*_, _/_, _≤_, _<_}
+use native.Mathlib.Omega.{arith}
+use mathlib.Core.Path.{_≡_, refl, sym, ap, _∙_}
+use mathlib.Core.Bool.{Bool, true, false}
+use mathlib.Core.List.{List, [], _∷_}
+use lib.ListN.{length}
+use lib.Dec.{ltb}
+use borrow.Author.Tests.{lt-ltb}
+use Rattle.table.specs.Node.{word}
+use Rattle.table.specs.declared.NodeNo.{NodeNo}
+use Rattle.build.specs.declared.Counts.{Counts}
+use Rattle.build.specs.declared.Why.{Why}
+use Rattle.build.specs.declared.Made.{Made}
+use Rattle.build.specs.declared.Made.the-variants.{Node, Refused}
+use Rattle.build.specs.declared.Asked.the-variants.{Granted, Denied}
+use Rattle.build.specs.Sheet.{Sheet, Built, countsOf, counted, add}
+use Rattle.build.specs.Parts.{hardline, stays, group}
+use Rattle.build.specs.Outcome.{asked, outcome, made}
+use Rattle.build.specs.Constructors.{has, plainMade, groupMade}
+use Rattle.build.proofs.Grow.{Whole, Grown, same, then, whole-grown, add-grown, group-grown}
+use Rattle.build.proofs.Words.{new-word}
+use Rattle.build.proofs.Choices.{group-wraps}
+use Rattle.build.proofs.Lines.{One, whole}
+use Rattle.build.proofs.Stand.{start, Went, taken, refuse, Begun, begin, step, finish}
+
+module _ (c : Counts) (table text : List ℕ) {flat : Sheet → Built} {k : ℕ} (one : One flat k) where
+  abbrev line-of : Sheet → Built
+  line-of s = whole c table text one s
+
+  abbrev pub soft : Sheet → Built
+  soft s = let l = line-of s in group (l .sheet) (l .node)
+
+  abbrev s₀ : Sheet
+  s₀ = counted c table text
+
+  line-grown : Grown s₀ (line-of s₀ .sheet)
+  line-grown = then (add-grown s₀ 5 0 0 0) (then (one .grows (hardline s₀ .sheet)) (add-grown (flat (hardline s₀ .sheet) .sheet) 3 (hardline s₀ .node) (flat (hardline s₀ .sheet) .node) 0))
+
+  line-counts : line-of s₀ .sheet .counts ≡ countsOf (c .nodes + 3) (c .bytes + k)
+  unfolding counted
+  line-counts =
+      let e = one .counts (hardline s₀ .sheet) in
+      let n : line-of s₀ .sheet .counts .nodes ≡ c .nodes + 3 = omega (arith, ap (λ (x : Counts). x .nodes) e) in
+      let b : line-of s₀ .sheet .counts .bytes ≡ c .bytes + k = ap (λ (x : Counts). x .bytes) e in
+      λ i. countsOf (n i) (b i)
+
+  -- a line is wrapped
+  wraps : Whole s₀ → soft s₀ ≡ add (line-of s₀ .sheet) 2 (line-of s₀ .node) 0 0
+  unfolding stays
+  wraps w = group-wraps (line-of s₀ .sheet) (line-of s₀ .node) (by-kind (new-word (whole-grown w (then (add-grown s₀ 5 0 0 0) (one .grows (hardline s₀ .sheet)))) (3 ∷ hardline s₀ .node ∷ flat (hardline s₀ .sheet) .node ∷ 0 ∷ []) 0))
+    where
+      by-kind : word (line-of s₀ .sheet .table) (line-of s₀ .node) 0 ≡ 3 → stays (line-of s₀ .sheet) (line-of s₀ .node) ≡ false
+      by-kind e = rw e refl
+
+  right-counts : c .nodes ≤ length table / 4 → c .bytes ≤ length text → true ≡ true → (soft s₀ .sheet .counts .nodes ≡ c .nodes + 4) × (soft s₀ .sheet .counts .bytes ≡ c .bytes + k)
+  right-counts n b t =
+      let e = wraps (start c table text n b .whole) in
+      let l = line-counts in
+      rw e (omega (arith, ap (λ (x : Counts). x .nodes) l), ap (λ (x : Counts). x .bytes) l)
+
+  pub soft-refused : (why : Why) → asked c (length table) (length text) true true true (c .nodes + 4) (c .bytes + k) ≡ Denied why → outcome (Refused why) table text ≡ plainMade c table text soft
+  soft-refused why d = refuse c table text true true true soft _ _ right-counts why d
+
+  module _ (granted : asked c (length table) (length text) true true true (c .nodes + 4) (c .bytes + k) ≡ Granted) where
+    last : Grown (line-of s₀ .sheet) (soft s₀ .sheet)
+    last = group-grown (line-of s₀ .sheet) (line-of s₀ .node)
+
+    begun : Begun c table text true true true soft
+    begun = begin c table text true true true soft (c .nodes + 4) (c .bytes + k) right-counts (then line-grown last) granted
+
+    pub soft-first : {m : Made} {table′ text′ : List ℕ} → outcome m table′ text′ ≡ plainMade c table text line-of → Went table text (line-of s₀) m table′ text′
+    soft-first o = step begun (begun .stands) line-of (same s₀) line-grown last refl refl refl o
+
+    pub soft-last : {m : Made} {table₁ text₁ : List ℕ} → Went table text (line-of s₀) m table₁ text₁ → {c₁ : Counts} {n₁ : NodeNo} → m ≡ Node c₁ n₁ → {m₂ : Made} {table₂ text₂ : List ℕ} → outcome m₂ table₂ text₂ ≡ groupMade c₁ table₁ text₁ (n₁ .0) → outcome m₂ table₂ text₂ ≡ plainMade c table text soft
+    unfolding counted
+    soft-last went {c₁} {n₁} e o =
+        let t = taken went e in
+        let o′ = rw (t .1) at o in
+        let l = ap (λ (x : Counts). x .nodes) (t .0 .counts ∙ line-counts) in
+        let f = ap (λ (x : Counts). x .nodes) (one .counts (hardline s₀ .sheet)) in
+        let present : has c₁ (line-of s₀ .node) ≡ true = lt-ltb (line-of s₀ .node) (c₁ .nodes) (omega arith) in
+        finish begun (step begun (t .0) (λ s. group s (line-of s₀ .node)) line-grown last (same (soft s₀ .sheet)) present refl refl o′)

@@ -1,0 +1,89 @@
+-- Text, a node and its bytes: what is asked, what is answered and what is left come to the definition.
+-- Assumes nothing.
+use Prim.Native.Nat.{ℕ, _+_, _*_, _/_, _≤_, _<_}
+use native.Mathlib.Omega.{arith}
+use native.Mathlib.Nat.{add-zero}
+use mathlib.Core.Path.{_≡_, refl, sym, ap, _∙_}
+use mathlib.Core.Bool.{Bool, true, false}
+use mathlib.Core.List.{List, [], _∷_, _++_}
+use lib.ListN.{length, take, drop, length-append, length-take}
+use lib.Dec.{eqb}
+use borrow.Author.Tests.{eqb-true, eq-eqb, ne-eqb}
+use Rattle.table.specs.Pick.{pick}
+use Rattle.build.specs.declared.Counts.{Counts}
+use Rattle.build.specs.declared.Why.{Why}
+use Rattle.build.specs.declared.Made.{Made}
+use Rattle.build.specs.declared.Made.the-variants.{Node, Refused}
+use Rattle.build.specs.declared.Asked.the-variants.{Granted, Denied}
+use Rattle.build.specs.Sheet.{Sheet, Built, countsOf, counted, over, add, write}
+use Rattle.build.specs.Parts.{nil, text}
+use Rattle.build.specs.Outcome.{asked, outcome, added, made}
+use Rattle.build.proofs.Choices.{text-none, text-some}
+use Rattle.build.proofs.Room.{Allowed, allowed}
+use Rattle.build.proofs.Stand.{over-front, made-granted, made-denied}
+
+pub text-counts : (s : Sheet) (bytes : List ℕ) (columns : ℕ) → text s bytes columns .sheet .counts ≡ countsOf (s .counts .nodes + 1) (s .counts .bytes + length bytes)
+unfolding text
+text-counts s bytes columns = go (eqb (length bytes) 0) refl
+  where
+    go : (q : Bool) → eqb (length bytes) 0 ≡ q → pick q (nil s) (add (write s bytes) 6 (s .counts .bytes) (length bytes) columns) .sheet .counts ≡ countsOf (s .counts .nodes + 1) (s .counts .bytes + length bytes)
+    go true e = let z = eqb-true (length bytes) 0 e in ap (countsOf (s .counts .nodes + 1)) (omega arith)
+    go false e = refl
+
+pub text-present : (s : Sheet) (bytes : List ℕ) (columns : ℕ) → text s bytes columns .node < text s bytes columns .sheet .counts .nodes
+unfolding text
+text-present s bytes columns = go (eqb (length bytes) 0)
+  where
+    go : (q : Bool) → pick q (nil s) (add (write s bytes) 6 (s .counts .bytes) (length bytes) columns) .node < pick q (nil s) (add (write s bytes) 6 (s .counts .bytes) (length bytes) columns) .sheet .counts .nodes
+    go true = omega arith
+    go false = omega arith
+
+module _ (c : Counts) (table letters bytes : List ℕ) (columns : ℕ) (right : Bool) where
+  abbrev s₀ : Sheet
+  s₀ = counted c table letters
+
+  abbrev after : Counts
+  after = countsOf (c .nodes + 1) (c .bytes + length bytes)
+
+  counts-are : text s₀ bytes columns .sheet .counts ≡ after
+  unfolding counted
+  counts-are = text-counts s₀ bytes columns
+
+  pub text-denied : (why : Why) → asked c (length table) (length letters) true true right (c .nodes + 1) (c .bytes + length bytes) ≡ Denied why → outcome (Refused why) table letters ≡ made c table letters true true right (λ s. text s bytes columns)
+  text-denied why d =
+      made-denied c table letters true true right (λ s. text s bytes columns) _ _ why (ap (λ (x : Counts). x .nodes) counts-are) (ap (λ (x : Counts). x .bytes) counts-are) d
+
+  module _ (g : asked c (length table) (length letters) true true right (c .nodes + 1) (c .bytes + length bytes) ≡ Granted) where
+    facts : Allowed c after (length table) (length letters) true true right
+    facts = allowed c after (length table) (length letters) true true right (omega arith) (omega arith) g
+
+    pub text-node-room : (c .nodes < 1024) × (c .nodes * 4 + 3 < length table)
+    text-node-room =
+        let h = facts .room .nodes in
+        let l = h .limited (omega arith) in
+        let i = h .inside (omega arith) in
+        (omega arith, omega arith)
+
+    pub text-byte-room : (length bytes ≡ 0 → ⊥) → (c .bytes + length bytes ≤ 65536) × (c .bytes + length bytes ≤ length letters)
+    text-byte-room some =
+        let h = facts .room .used in
+        let n : c .bytes < c .bytes + length bytes = let l : 0 < length bytes = omega (arith, some) in omega arith in
+        (h .limited n, h .inside n)
+
+    text-is : {m : Made} {table′ letters′ : List ℕ} → (b : Built) → text s₀ bytes columns ≡ b → outcome m table′ letters′ ≡ added b table letters → outcome m table′ letters′ ≡ made c table letters true true right (λ s. text s bytes columns)
+    text-is b e o =
+        let n = sym (ap (λ (x : Built). x .sheet .counts) e) ∙ counts-are in
+        o ∙ sym (made-granted c table letters true true right (λ s. text s bytes columns) b e (rw n g))
+
+    pub text-empty : length bytes ≡ 0 → {m : Made} {table′ : List ℕ} → m ≡ Node (countsOf (c .nodes + 1) (c .bytes)) (record { 0 = c .nodes }) → table′ ≡ over (take (c .nodes * 4) table ++ (0 ∷ 0 ∷ 0 ∷ 0 ∷ [])) table → outcome m table′ letters ≡ made c table letters true true right (λ s. text s bytes columns)
+    unfolding counted added
+    text-empty z e t =
+        let u = over-front (c .bytes) letters (facts .counted-bytes) in
+        text-is (nil s₀) (text-none s₀ bytes columns (eq-eqb (length bytes) 0 z)) (λ i. outcome (e i) (t i) (u i))
+
+    pub text-full : (length bytes ≡ 0 → ⊥) → {m : Made} {table′ letters′ : List ℕ} → m ≡ Node (countsOf (c .nodes + 1) (c .bytes + length bytes)) (record { 0 = c .nodes }) → table′ ≡ over (take (c .nodes * 4) table ++ (6 ∷ c .bytes ∷ length bytes ∷ columns ∷ [])) table → letters′ ≡ take (c .bytes) letters ++ bytes ++ drop (c .bytes + length bytes) letters → outcome m table′ letters′ ≡ made c table letters true true right (λ s. text s bytes columns)
+    unfolding counted added
+    text-full some e t l =
+        let size : length (take (c .bytes) letters ++ bytes) ≡ c .bytes + length bytes = simp (length-append, length-take) (let b = facts .counted-bytes in omega arith) in
+        let u = l ∙ ap (λ (n : ℕ). take (c .bytes) letters ++ bytes ++ drop n letters) (sym size) in
+        text-is (add (write s₀ bytes) 6 (c .bytes) (length bytes) columns) (text-some s₀ bytes columns (ne-eqb (length bytes) 0 some)) (λ i. outcome (e i) (t i) (u i))

@@ -1,0 +1,6 @@
+-- The definitions of the constructors, in the order in which they stand on each other.
+pub mod Sheet
+pub mod Parts
+pub mod Solid
+pub mod Outcome
+pub mod Constructors

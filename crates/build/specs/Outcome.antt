@@ -1,0 +1,67 @@
+-- The order of refusals, and what a constructor leaves: its answer, and the whole of table and text.
+use Prim.Native.Nat.{ℕ, _/_}
+use mathlib.Core.Bool.{Bool, true, false, not, _&&_, _||_}
+use mathlib.Core.List.{List}
+use lib.ListN.{length}
+use lib.Dec.{eqb, ltb, leb}
+use Rattle.table.specs.Pick.{pick}
+use Rattle.build.specs.declared.Counts.{Counts}
+use Rattle.build.specs.declared.Why.{Why}
+use Rattle.build.specs.declared.Why.the-variants.{Sizes, Operand, Amount, Text, Bytes, Nodes}
+use Rattle.build.specs.declared.Made.{Made}
+use Rattle.build.specs.declared.Made.the-variants.{Node, Refused}
+use Rattle.build.specs.declared.Asked.{Asked}
+use Rattle.build.specs.declared.Asked.the-variants.{Granted, Denied}
+use Rattle.build.specs.Sheet.{Sheet, Built, counted, over}
+
+-- document 01's number for each refusal
+abbrev pub number : Why → ℕ
+number Sizes = 1
+number Operand = 11
+number Amount = 3
+number Text = 5
+number Bytes = 12
+number Nodes = 10
+
+-- counts past the lent table or text; a table's last words that make no node don't count
+abbrev pub past : Counts → ℕ → ℕ → Bool
+past c words bytes = ltb (words / 4) (c .nodes) || ltb bytes (c .bytes)
+
+-- adding nothing always fits
+abbrev pub fits : ℕ → ℕ → ℕ → ℕ → Bool
+fits before after limit lent = eqb before after || (leb after limit && leb after lent)
+
+-- 1, 11, then 3 or 5, then 12, then 10: operands present, amount and text right, and counts afterwards
+unfoldable pub asked : Counts → ℕ → ℕ → Bool → Bool → Bool → ℕ → ℕ → Asked
+asked c words bytes present amount text nodes used =
+    pick (past c words bytes) (Denied Sizes)
+    (pick (not present) (Denied Operand)
+    (pick (not amount) (Denied Amount)
+    (pick (not text) (Denied Text)
+    (pick (not (fits (c .bytes) used 65536 bytes)) (Denied Bytes)
+    (pick (not (fits (c .nodes) nodes 1024 (words / 4))) (Denied Nodes)
+    Granted)))))
+
+-- an answer, and what table and text hold afterwards
+pub record Outcome : Type 0 where
+  pub made : Made
+  pub table : List ℕ
+  pub text : List ℕ
+
+abbrev pub outcome : Made → List ℕ → List ℕ → Outcome
+outcome made table text = record { made = made; table = table; text = text }
+
+-- what was built stands over the front of table and text
+unfoldable pub added : Built → List ℕ → List ℕ → Outcome
+added b table text = outcome (Node (b .sheet .counts) (record { 0 = b .node })) (over (b .sheet .table) table) (over (b .sheet .text) text)
+
+-- a refusal leaves table and text unchanged
+abbrev pub settled : Asked → Built → List ℕ → List ℕ → Outcome
+settled Granted b table text = added b table text
+settled (Denied why) b table text = outcome (Refused why) table text
+
+-- all parts, or nothing
+unfoldable pub made : Counts → List ℕ → List ℕ → Bool → Bool → Bool → (Sheet → Built) → Outcome
+made c table text present amount right parts =
+    let b = parts (counted c table text) in
+    settled (asked c (length table) (length text) present amount right (b .sheet .counts .nodes) (b .sheet .counts .bytes)) b table text

@@ -1,0 +1,159 @@
+// Text bytes: whether all are below 128, whether they are well-formed UTF-8 by RFC 3629, and whether a Text's columns are right.
+ghost use mathlib.Core.Path.{_≡_};
+ghost use Rattle.table.specs.Utf8.{wellFormed, ascii, start};
+ghost use Rattle.table.specs.Owing.{starts, GoesOn};
+ghost use Rattle.table.specs.Fault.{columnsRight};
+
+// Whether all bytes are below 128. It reads to the end, so that it goes by whole blocks.
+pub fn below_128(bytes: &[u8]) -> bool
+    ensures { λ r. ⌜ r ≡ ascii (now (bytes .entry)) ⌝ }
+{
+    let mut low = true;
+    let mut i = 0;
+    while i < bytes.len() {
+        low = low & (bytes[i] < 128);
+        i += 1;
+    }
+    low
+}
+
+// What a character still owes: so many octets, the next between low and high, the others UTF8-tails.
+struct Owing {
+    count: u32,
+    low: u8,
+    high: u8,
+}
+
+// After an octet: what is owed, or that the octet can't stand there.
+enum Next {
+    Owes(Owing),
+    Wrong,
+}
+
+// What a first octet owes, by RFC 3629, section 4.
+fn start_of(b: u8) -> Next
+    ensures { λ r. ⌜ starts r ≡ start b ⌝ }
+{
+    if b <= 0x7F {
+        return Next::Owes(Owing {
+            count: 0,
+            low: 0x80,
+            high: 0xBF,
+        });
+    }
+    if b < 0xC2 {
+        return Next::Wrong;
+    }
+    if b <= 0xDF {
+        return Next::Owes(Owing {
+            count: 1,
+            low: 0x80,
+            high: 0xBF,
+        });
+    }
+    if b <= 0xE0 {
+        return Next::Owes(Owing {
+            count: 2,
+            low: 0xA0,
+            high: 0xBF,
+        });
+    }
+    if b <= 0xEC {
+        return Next::Owes(Owing {
+            count: 2,
+            low: 0x80,
+            high: 0xBF,
+        });
+    }
+    if b <= 0xED {
+        return Next::Owes(Owing {
+            count: 2,
+            low: 0x80,
+            high: 0x9F,
+        });
+    }
+    if b <= 0xEF {
+        return Next::Owes(Owing {
+            count: 2,
+            low: 0x80,
+            high: 0xBF,
+        });
+    }
+    if b <= 0xF0 {
+        return Next::Owes(Owing {
+            count: 3,
+            low: 0x90,
+            high: 0xBF,
+        });
+    }
+    if b <= 0xF3 {
+        return Next::Owes(Owing {
+            count: 3,
+            low: 0x80,
+            high: 0xBF,
+        });
+    }
+    if b <= 0xF4 {
+        return Next::Owes(Owing {
+            count: 3,
+            low: 0x80,
+            high: 0x8F,
+        });
+    }
+    Next::Wrong
+}
+
+// One octet.
+fn octet(o: Owing, b: u8) -> Next
+    ensures { λ r. ⌜ GoesOn o b r ⌝ }
+{
+    if o.count == 0 {
+        return start_of(b);
+    }
+    if b < o.low {
+        return Next::Wrong;
+    }
+    if o.high < b {
+        return Next::Wrong;
+    }
+    Next::Owes(Owing {
+        count: o.count - 1,
+        low: 0x80,
+        high: 0xBF,
+    })
+}
+
+// Whether the bytes are well-formed UTF-8 by RFC 3629.
+pub fn well_formed(bytes: &[u8]) -> bool
+    ensures { λ r. ⌜ r ≡ wellFormed (now (bytes .entry)) ⌝ }
+{
+    let mut o = Owing {
+        count: 0,
+        low: 0x80,
+        high: 0xBF,
+    };
+    let mut i = 0;
+    while i < bytes.len() {
+        let next = octet(o, bytes[i]);
+        let Next::Owes(p) = next else {
+            return false;
+        };
+        o = p;
+        i += 1;
+    }
+    o.count == 0
+}
+
+// Whether the columns of a Text with these bytes are right, and the bytes well-formed.
+pub fn columns_right(bytes: &[u8], c: u32) -> bool
+    ensures { λ r. ⌜ r ≡ columnsRight (now (bytes .entry)) c ⌝ }
+{
+    let columns = c as usize;
+    if below_128(bytes) {
+        return columns == bytes.len();
+    }
+    if well_formed(bytes) {
+        return columns <= bytes.len();
+    }
+    false
+}
