@@ -7,20 +7,33 @@ use lib.ListN.{length, replicate}
 use lib.Dec.{leb}
 use Rattle.table.specs.Pick.{pick}
 use Rattle.rules.specs.Layout as rules
-use Rattle.rules.specs.Call.{Given, call, refusal, padded}
+use Rattle.rules.specs.Call.{Given, call, refusal, wordsOf, padded}
+use Rattle.events.specs.declared.Event.{Event}
+use Rattle.events.specs.Called.{noted}
 
 -- what a call with a report of n words answers: a report shorter than five words is answer 1
 unfoldable pub answering : Given → ℕ → rules.Report
 answering g n = pick (leb 5 n) (call g) (refusal 1 0)
 
--- the report's n words: answer, place, steps, used bytes, used events, and zero in the rest; all zero if they are fewer than five
-unfoldable pub told : rules.Report → ℕ → List ℕ
-told c n = pick (leb 5 n) (padded (c .answer ∷ c .place ∷ c .steps ∷ length (c .bytes) ∷ length (c .events) ∷ []) n) (replicate n 0)
+-- five words at the front of a report of n, and zero in the rest; all zero if they are fewer than five
+abbrev pub told : List ℕ → ℕ → List ℕ
+told five n = pick (leb 5 n) (padded five n) (replicate n 0)
 
--- `want` is what the events are to hold, `have` what they hold
-pub record Exported {A : Type 0} (g : Given) (n answer : ℕ) (out : List ℕ) (want have : List A) (work report : List ℕ) : Type 0 where
-  pub answer : answer ≡ answering g n .answer
+-- answer, place, steps, used bytes, used events
+abbrev pub five : rules.Report → List ℕ
+five c = c .answer ∷ c .place ∷ c .steps ∷ length (c .bytes) ∷ length (c .events) ∷ []
+
+-- r is the answer returned; `shown` says what a buffer of events holds
+pub record Exported {A : Type 0} (shown : List rules.Event → List A) (g : Given) (r : ℕ) (out : List ℕ) (events : List A) (work report : List ℕ) (n : ℕ) : Type 0 where
+  pub answer : r ≡ answering g n .answer
   pub output : out ≡ padded (answering g n .bytes) (g .room)
-  pub events : have ≡ want
+  pub events-hold : events ≡ shown (answering g n .events)
   pub cleared : work ≡ replicate (g .work) 0
-  pub report : report ≡ told (answering g n) n
+  pub report-holds : report ≡ told (five (answering g n)) n
+
+-- with the events as records, and as so many words
+abbrev pub Records : Given → ℕ → List ℕ → List Event → List ℕ → List ℕ → ℕ → Type 0
+Records g = Exported (λ es. noted es (g .slots)) g
+
+abbrev pub Words : ℕ → Given → ℕ → List ℕ → List ℕ → List ℕ → List ℕ → ℕ → Type 0
+Words words g = Exported (λ es. padded (wordsOf es) words) g

@@ -6,13 +6,12 @@ use events::Event;
 use sheet::Report;
 ghost use mathlib.Core.Path.{_≡_};
 ghost use mathlib.Core.List.{[], _∷_};
-ghost use lib.ListN.{length, replicate};
+ghost use lib.ListN.{length};
 ghost use lib.Dec.{leb};
 ghost use Rattle.table.specs.Pick.{pick};
-ghost use Rattle.rules.specs.Call.{padded, wordsOf};
 ghost use Rattle.sheet.specs.Called.{given, defaultWidth, defaultSteps};
-ghost use Rattle.events.specs.Called.{asked, noted};
-ghost use Rattle.pursegable.specs.Exported.{answering, Exported};
+ghost use Rattle.events.specs.Called.{asked};
+ghost use Rattle.pursegable.specs.Exported.{told, Records, Words};
 
 // The words of a report: answer, place, steps, used bytes, used events.
 const REPORT_WORDS: usize = 5;
@@ -32,7 +31,7 @@ fn limit_for(limit: u32, words: usize) -> u32
 
 // Fills the report, where there is room for it; the rest of its words are zero.
 fn tell(r: Report, report: &mut [u32])
-    ensures { λ _. ⌜ now (report .exit) ≡ pick (leb 5 (length (now (report .entry)))) (padded (r .answer ∷ r .place .0 ∷ r .steps ∷ r .used ∷ r .marks ∷ []) (length (now (report .entry)))) (replicate (length (now (report .entry))) 0) ⌝ }
+    ensures { λ _. ⌜ now (report .exit) ≡ told (r .answer ∷ r .place .0 ∷ r .steps ∷ r .used ∷ r .marks ∷ []) (length (now (report .entry))) ⌝ }
 {
     buffer::clear_words(report);
     if report.len() < REPORT_WORDS {
@@ -49,7 +48,7 @@ fn tell(r: Report, report: &mut [u32])
 // Lays a table out at a width, with a step limit. The answer is returned, and is the report's first word.
 #[no_mangle]
 pub extern "C" fn pursegable_layout(table: &[u32], text: &[u8], width: u32, limit: u32, out: &mut [u8], events: &mut [Event], work: &mut [u32], report: &mut [u32]) -> u32
-    ensures { λ r. ⌜ Exported (asked (now (table .entry)) (now (text .entry)) width limit (length (now (out .entry))) (length (now (events .entry))) (length (now (work .entry)))) (length (now (report .entry))) r (now (out .exit)) (noted (answering (asked (now (table .entry)) (now (text .entry)) width limit (length (now (out .entry))) (length (now (events .entry))) (length (now (work .entry)))) (length (now (report .entry))) .events) (length (now (events .entry)))) (now (events .exit)) (now (work .exit)) (now (report .exit)) ⌝ }
+    ensures { λ r. ⌜ Records (asked (now (table .entry)) (now (text .entry)) width limit (length (now (out .entry))) (length (now (events .entry))) (length (now (work .entry)))) r (now (out .exit)) (now (events .exit)) (now (work .exit)) (now (report .exit)) (length (now (report .entry))) ⌝ }
 {
     let words = report.len();
     let limit = limit_for(limit, words);
@@ -61,7 +60,7 @@ pub extern "C" fn pursegable_layout(table: &[u32], text: &[u8], width: u32, limi
 // The whole sheet, at the default width and step limit.
 #[no_mangle]
 pub extern "C" fn pursegable_sheet(table: &[u32], text: &[u8], out: &mut [u8], events: &mut [Event], work: &mut [u32], report: &mut [u32]) -> u32
-    ensures { λ r. ⌜ Exported (asked (now (table .entry)) (now (text .entry)) defaultWidth defaultSteps (length (now (out .entry))) (length (now (events .entry))) (length (now (work .entry)))) (length (now (report .entry))) r (now (out .exit)) (noted (answering (asked (now (table .entry)) (now (text .entry)) defaultWidth defaultSteps (length (now (out .entry))) (length (now (events .entry))) (length (now (work .entry)))) (length (now (report .entry))) .events) (length (now (events .entry)))) (now (events .exit)) (now (work .exit)) (now (report .exit)) ⌝ }
+    ensures { λ r. ⌜ Records (asked (now (table .entry)) (now (text .entry)) defaultWidth defaultSteps (length (now (out .entry))) (length (now (events .entry))) (length (now (work .entry)))) r (now (out .exit)) (now (events .exit)) (now (work .exit)) (now (report .exit)) (length (now (report .entry))) ⌝ }
 {
     pursegable_layout(table, text, sheet::DEFAULT_WIDTH, sheet::DEFAULT_STEPS, out, events, work, report)
 }
@@ -69,7 +68,7 @@ pub extern "C" fn pursegable_sheet(table: &[u32], text: &[u8], out: &mut [u8], e
 // The row label, at the default width and step limit.
 #[no_mangle]
 pub extern "C" fn pursegable_label(table: &[u32], text: &[u8], out: &mut [u8], events: &mut [Event], work: &mut [u32], report: &mut [u32]) -> u32
-    ensures { λ r. ⌜ Exported (asked (now (table .entry)) (now (text .entry)) defaultWidth defaultSteps (length (now (out .entry))) (length (now (events .entry))) (length (now (work .entry)))) (length (now (report .entry))) r (now (out .exit)) (noted (answering (asked (now (table .entry)) (now (text .entry)) defaultWidth defaultSteps (length (now (out .entry))) (length (now (events .entry))) (length (now (work .entry)))) (length (now (report .entry))) .events) (length (now (events .entry)))) (now (events .exit)) (now (work .exit)) (now (report .exit)) ⌝ }
+    ensures { λ r. ⌜ Records (asked (now (table .entry)) (now (text .entry)) defaultWidth defaultSteps (length (now (out .entry))) (length (now (events .entry))) (length (now (work .entry)))) r (now (out .exit)) (now (events .exit)) (now (work .exit)) (now (report .exit)) (length (now (report .entry))) ⌝ }
 {
     pursegable_layout(table, text, sheet::DEFAULT_WIDTH, sheet::DEFAULT_STEPS, out, events, work, report)
 }
@@ -77,7 +76,7 @@ pub extern "C" fn pursegable_label(table: &[u32], text: &[u8], out: &mut [u8], e
 // As pursegable_layout, with the events as words, three to a record: nothing is copied.
 #[no_mangle]
 pub extern "C" fn pursegable_layout_words(table: &[u32], text: &[u8], width: u32, limit: u32, out: &mut [u8], events: &mut [u32], work: &mut [u32], report: &mut [u32]) -> u32
-    ensures { λ r. ⌜ Exported (given (now (table .entry)) (now (text .entry)) width limit (length (now (out .entry))) (length (now (events .entry))) (length (now (work .entry)))) (length (now (report .entry))) r (now (out .exit)) (padded (wordsOf (answering (given (now (table .entry)) (now (text .entry)) width limit (length (now (out .entry))) (length (now (events .entry))) (length (now (work .entry)))) (length (now (report .entry))) .events)) (length (now (events .entry)))) (now (events .exit)) (now (work .exit)) (now (report .exit)) ⌝ }
+    ensures { λ r. ⌜ Words (length (now (events .entry))) (given (now (table .entry)) (now (text .entry)) width limit (length (now (out .entry))) (length (now (events .entry))) (length (now (work .entry)))) r (now (out .exit)) (now (events .exit)) (now (work .exit)) (now (report .exit)) (length (now (report .entry))) ⌝ }
 {
     let limit = limit_for(limit, report.len());
     let r = sheet::layout(table, text, width, limit, out, events, work);

@@ -1,0 +1,2 @@
+-- Laws that the exports' proofs cite.
+pub mod Answering
