@@ -20,7 +20,7 @@ static void fail(const char *what, size_t at)
 
 static void *lend(size_t n, size_t size)
 {
-    unsigned char *p = malloc(n * size ? n * size : 1);
+    unsigned char *p = malloc(n * size + !n);
     if (!p) {
         printf("link.c: no memory\n");
         exit(1);

@@ -1,18 +1,15 @@
 -- The records published from the words of events are those events, and no event past them.
 -- Assumes nothing.
 use mathlib.Core.Path.{_≡_, refl, sym, ap, _∙_}
-use mathlib.Core.Bool.{Bool, true, false, _&&_}
 use mathlib.Core.List.{List, [], _∷_, _++_}
-use Prim.Native.Nat.{ℕ, zero, suc, _+_, _-_, _*_, _/_, _<_, _≤_}
+use Prim.Native.Nat.{ℕ, zero, suc, _+_, _-_, _*_, _/_, _≤_}
 use native.Mathlib.Omega.{arith}
 use native.Mathlib.Nat.{not-suc-le-zero, le-of-suc-le-suc}
-use native.Mathlib.Numerals.{add-one}
 use borrow.Author.Tests.{lt-ltb, le-ltb}
 use lib.Dec.{ltb, leb·suc-suc}
 use lib.ListN.{length, getD, replicate}
-use Rattle.table.specs.Pick.{pick}
 use Rattle.rules.specs.Layout as rules
-use Rattle.rules.specs.Call.{eventWords, wordsOf}
+use Rattle.rules.specs.Call.{wordsOf}
 use Rattle.events.specs.declared.Event.{Event}
 use Rattle.events.specs.Records.{none, eventAt, recordAt, records, published}
 use Rattle.events.specs.Called.{recordOf, recordsOf, noted}

@@ -2,19 +2,19 @@
 -- Assumes nothing.
 use mathlib.Core.Path.{_≡_, refl, sym, ap, subst, _∙_}
 use mathlib.Core.Bool.{Bool, true, false, _&&_}
-use mathlib.Core.List.{List, [], _∷_, _++_, append-assoc}
-use Prim.Native.Nat.{ℕ, zero, suc, _+_, _-_, _*_, _/_, _<_, _≤_}
+use mathlib.Core.List.{List, [], _++_, append-assoc}
+use Prim.Native.Nat.{ℕ, _+_, _-_, _*_, _/_, _<_}
 use native.Mathlib.Omega.{arith}
 use borrow.Author.Tests.{lt-leb}
 use lib.Dec.{leb}
 use lib.ListN.{length, replicate}
 use Rattle.rules.specs.Layout as rules
-use Rattle.rules.specs.Call.{Given, buffersRight, refusal, call, wordsOf, padded}
+use Rattle.rules.specs.Call.{Given, refusal, call, wordsOf, padded}
 use Rattle.rules.proofs.Answers.{answered}
 use Rattle.sheet.specs.declared.Report.{Report}
 use Rattle.sheet.specs.Called as words
 use Rattle.events.specs.declared.Event.{Event}
-use Rattle.events.specs.Records.{none, published}
+use Rattle.events.specs.Records.{published}
 use Rattle.events.specs.Called.{asked, noted, Called}
 use Rattle.events.proofs.Published.{published-noted}
 

@@ -1,6 +1,6 @@
 -- An export's answer from the call that it makes: with a report shorter than five words that call's limit is out of range, so it answers 1.
 -- Assumes nothing.
-use mathlib.Core.Path.{_≡_, refl, sym, ap, subst, _∙_}
+use mathlib.Core.Path.{_≡_, refl, sym, ap, _∙_}
 use mathlib.Core.Bool.{Bool, true, false, _&&_}
 use mathlib.Core.List.{List, [], _∷_}
 use Prim.Native.Nat.{ℕ, suc, _-_, _<_, _≤_}
@@ -10,12 +10,12 @@ use lib.Dec.{leb}
 use lib.ListN.{length, set, replicate, length-replicate}
 use Rattle.table.specs.Pick.{pick}
 use Rattle.rules.specs.Layout as rules
-use Rattle.rules.specs.Call.{Given, buffersRight, refusal, call, wordsOf, padded}
+use Rattle.rules.specs.Call.{Given, refusal, call, wordsOf, padded}
 use Rattle.sheet.specs.declared.Report.{Report}
 use Rattle.sheet.specs.Called as words
 use Rattle.events.specs.declared.Event.{Event}
 use Rattle.events.specs.Called as records
-use Rattle.pursegable.specs.Exported.{answering, told, five, Exported, Records, Words}
+use Rattle.pursegable.specs.Exported.{answering, told, five, Records, Words}
 
 -- the limit that an export lays out with
 abbrev pub limitFor : ℕ → ℕ → ℕ

@@ -4,10 +4,8 @@ use mathlib.Core.Path.{_≡_, refl, sym, ap, _∙_}
 use mathlib.Core.Bool.{Bool, true, false, not, _&&_}
 use mathlib.Core.List.{List, [], _∷_}
 use Prim.Native.Nat.{ℕ, _<_, _≤_}
-use native.Mathlib.Nat.{not-suc-le-zero}
 use native.Mathlib.Omega.{arith}
 use borrow.Author.Tests.{lt-leb, le-leb, ne-eqb}
-use lib.Dec.{leb}
 use lib.ListN.{length, getD, set, drop}
 use Rattle.table.specs.Pick.{pick}
 use Rattle.build.specs.declared.Counts.{Counts}
@@ -15,7 +13,7 @@ use Rattle.build.specs.declared.Made.{Made}
 use Rattle.build.specs.Sheet.{countsOf}
 use Rattle.build.specs.Outcome.{Outcome, outcome}
 use Rattle.build.specs.Constructors.{softline₀Made, encloseMade}
-use Rattle.pursegable.specs.Building.{Left, left, answerOf, countsAfter, settled, built, leafMade, innerMade, isLeaf, known, anyMade, makes}
+use Rattle.pursegable.specs.Building.{left, answerOf, countsAfter, settled, built, leafMade, innerMade, isLeaf, known, anyMade, makes}
 
 -- ---- by number
 

@@ -2,7 +2,6 @@
 -- Assumes nothing.
 use borrow.Author.Needs.{needs}
 use borrow.Author.Tests.{le-ltb, lt-ltb}
-use mathlib.Core.Bool.{_&&_}
 use Rattle.events.specs.Records.{eventAt, recordAt}
 use Rattle.events.proofs.record_at.Statement.{statement}
 use Rattle.events.proofs.record_at.Tie as tie

@@ -1,44 +1,33 @@
+-- `pursegable::pursegable_layout_words` meets its contract: the covered call at the limit that the report allows, then the report.
+-- Assumes nothing.
 use borrow.Author.Needs.{needs}
 use lib.ListN.{length}
 use Rattle.sheet.specs.Called.{given}
 use Rattle.pursegable.proofs.Answering.{words-exported}
 use Rattle.pursegable.proofs.pursegable_layout_words.Statement.{statement}
 use Rattle.pursegable.proofs.pursegable_layout_words.Tie as tie
-use Rattle.pursegable.proofs.pursegable_layout_words.Reads as reads
-use Rattle.pursegable.proofs.pursegable_layout_words.Lts as lts
-use Rattle.pursegable.proofs.limit_for.Reads as limit-for-reads
-use Rattle.pursegable.proofs.tell.Reads as tell-reads
-use Rattle.sheet.proofs.layout.Reads as layout-reads
 
--- src/lib.rt:81:9
 limit-for-requires : tie.Need-limit-for-requires
 limit-for-requires c κs = search needs
 
--- src/lib.rt:82:9
 layout-requires : tie.Need-layout-requires
 layout-requires c κs = search needs
 
--- src/lib.rt:83:5
 tell-requires : tie.Need-tell-requires
 tell-requires c κs = search needs
 
--- src/lib.rt:77:1
 same-length : tie.Need-same-length
 same-length c = search needs
 
--- src/lib.rt:77:1
 same-length-2 : tie.Need-same-length-2
 same-length-2 c = search needs
 
--- src/lib.rt:77:1
 same-length-3 : tie.Need-same-length-3
 same-length-3 c = search needs
 
--- src/lib.rt:77:1
 same-length-4 : tie.Need-same-length-4
 same-length-4 c = search needs
 
--- src/lib.rt:77:1
 returns : tie.Need-returns
 returns c =
     let a = c .before .before .before .before .before .before .before .before .before .before .before .before .before .before .before .before .before .before .before .before .before .args in
