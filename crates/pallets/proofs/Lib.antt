@@ -1,0 +1,2 @@
+-- The laws of reading, with no code in sight.
+pub mod Reading
