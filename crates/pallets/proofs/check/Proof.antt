@@ -4,6 +4,10 @@ use mathlib.Core.Path.{_≡_, refl, sym, ap, _∙_, subst}
 use mathlib.Core.List.{List, [], _∷_, _++_, map}
 use Prim.Native.Nat.{ℕ, zero, suc, _+_, _-_, _*_, _≤_, _<_, _^_}
 use lib.ListN.{length, getD, take, drop, set, replicate, length-set}
+use Rattle.pallets.specs.Lines.{lines}
+use Rattle.pallets.specs.declared.Verdict.{Verdict}
+use Rattle.pallets.specs.Pallets.{firstOf, checked}
+use Rattle.pallets.proofs.Saying.{part-within, check-line, rest-none}
 use Rattle.pallets.proofs.check.Statement.{statement}
 use Rattle.pallets.proofs.check.Tie as tie
 use Rattle.pallets.proofs.check.Reads as reads
@@ -12,73 +16,58 @@ use Rattle.pallets.proofs.part_end.Reads as part-end-reads
 use Rattle.pallets.proofs.told.Reads as told-reads
 
 abbrev Inv-loop : tie.InvT-loop
-Inv-loop input before₀ at₀ before at = ?
+Inv-loop input before₀ at₀ before at = (before ≤ at) × (at ≤ length input) × (checked before (lines (drop at input)) ≡ checked 0 (lines input))
 
 abbrev μ-loop : tie.MeasureT-loop
-μ-loop input before₀ at₀ before at = ?
+μ-loop input before₀ at₀ before at = length input - at
 
--- src/lib.rt:361:5
 loop-holds : tie.Need-loop-holds Inv-loop μ-loop
-loop-holds c = search needs
+loop-holds c = (omega arith, omega arith, refl)
 
--- src/lib.rt:362:13
 part-end-requires : tie.Need-part-end-requires Inv-loop μ-loop
 part-end-requires c κs = search needs
 
--- src/lib.rt:363:28
 sub-told : tie.Need-sub-told Inv-loop μ-loop
 sub-told c = search needs
 
--- src/lib.rt:363:28
 part-told-start : tie.Need-part-told-start Inv-loop μ-loop
 part-told-start c = search needs
 
--- src/lib.rt:363:28
 part-told-end : tie.Need-part-told-end Inv-loop μ-loop
-part-told-end c = search needs
+part-told-end c = let L = c .before .before .loop in omega (arith, part-within (c .before .before .before .before .args .input .now) (L .at) 10 (omega arith), c .part-end .ensures)
 
--- src/lib.rt:363:13
 told-requires : tie.Need-told-requires Inv-loop μ-loop
 told-requires c κs = search needs
 
--- src/lib.rt:364:32
 enum-known-verdict : tie.Need-enum-known-verdict Inv-loop μ-loop
 enum-known-verdict c = search needs
 
--- src/lib.rt:365:37
 add-t12 : tie.Need-add-t12 Inv-loop μ-loop
 add-t12 c = search needs
 
--- src/lib.rt:365:13
 returns : tie.Need-returns Inv-loop μ-loop
-returns c = ?
+returns c = let L = c .before .before .before .before .before .before .before .loop in let s = c .before .before .before .before .before .before .before .before .before .args .input .now in let end = c .before .before .before .before .before .part-end .result in let rest = checked (L .before + 1) (lines (drop (end + 1) s)) in ap (λ (v : Verdict). firstOf (L .before + 1) v rest) (sym (c .before .verdict .given .1) ∙ c .before .before .before .told .ensures) ∙ check-line s (L .at) (L .before) end (c .before .before .before .before .before .part-end .ensures) (omega arith) ∙ L .inv .2
 
 enum-told : tie.Need-enum-told Inv-loop μ-loop
 enum-told c = search needs
 
--- src/lib.rt:368:13
 returns-2 : tie.Need-returns-2 Inv-loop μ-loop
-returns-2 c = ?
+returns-2 c = let L = c .before .before .before .before .before .before .before .loop in let s = c .before .before .before .before .before .before .before .before .before .args .input .now in let end = c .before .before .before .before .before .part-end .result in let rest = checked (L .before + 1) (lines (drop (end + 1) s)) in rest-none s (L .before + 1) (end + 1) (omega arith) ∙ ap (λ (v : Verdict). firstOf (L .before + 1) v rest) (sym (c .before .enum-told .given .1) ∙ c .before .before .before .told .ensures) ∙ check-line s (L .at) (L .before) end (c .before .before .before .before .before .part-end .ensures) (omega arith) ∙ L .inv .2
 
--- src/lib.rt:370:9
 add-before : tie.Need-add-before Inv-loop μ-loop
 add-before c = search needs
 
--- src/lib.rt:371:14
 add-at : tie.Need-add-at Inv-loop μ-loop
 add-at c = search needs
 
--- src/lib.rt:361:5
 loop-less : tie.Need-loop-less Inv-loop μ-loop
 loop-less c = search needs
 
--- src/lib.rt:361:5
 loop-again : tie.Need-loop-again Inv-loop μ-loop
-loop-again c = search needs
+loop-again c = let L = c .before .before .before .before .before .before .before .loop in let s = c .before .before .before .before .before .before .before .before .before .args .input .now in let end = c .before .before .before .before .before .part-end .result in let rest = checked (L .before + 1) (lines (drop (end + 1) s)) in (omega arith, omega arith, ap (λ (v : Verdict). firstOf (L .before + 1) v rest) (sym (c .before .enum-told .given .1) ∙ c .before .before .before .told .ensures) ∙ check-line s (L .at) (L .before) end (c .before .before .before .before .before .part-end .ensures) (omega arith) ∙ L .inv .2)
 
--- src/lib.rt:356:1
 returns-3 : tie.Need-returns-3 Inv-loop μ-loop
-returns-3 c = ?
+returns-3 c = let L = c .before .loop in rest-none (c .before .before .before .args .input .now) (L .before) (L .at) (omega arith) ∙ L .inv .2
 
 pub check-spec : {M : Type 1} → statement M
 check-spec =

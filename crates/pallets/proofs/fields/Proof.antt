@@ -4,47 +4,39 @@ use mathlib.Core.Path.{_≡_, refl, sym, ap, _∙_, subst}
 use mathlib.Core.List.{List, [], _∷_, _++_, map}
 use Prim.Native.Nat.{ℕ, zero, suc, _+_, _-_, _*_, _≤_, _<_, _^_}
 use lib.ListN.{length, getD, take, drop, set, replicate, length-set}
+use Rattle.pallets.proofs.Saying.{no-force, no-pluck, no-remark, fields-are}
 use Rattle.pallets.proofs.fields.Statement.{statement}
 use Rattle.pallets.proofs.fields.Tie as tie
 use Rattle.pallets.proofs.fields.Reads as reads
 use Rattle.pallets.proofs.fields.Lts as lts
 use Rattle.pallets.proofs.part_end.Reads as part-end-reads
 
--- src/lib.rt:248:9
 part-end-requires : tie.Need-part-end-requires
 part-end-requires c κs = search needs
 
--- src/lib.rt:250:9
 returns : tie.Need-returns
-returns c = ?
+returns c = (no-force (c .before .before .before .args .s .now) (c .before .part-end .result) (c .before .part-end .ensures) (c .if1 .taken), tt)
 
--- src/lib.rt:252:30
 add-part-end : tie.Need-add-part-end
 add-part-end c = search needs
 
--- src/lib.rt:252:9
 part-end-requires-2 : tie.Need-part-end-requires-2
 part-end-requires-2 c κs = search needs
 
--- src/lib.rt:254:9
 returns-2 : tie.Need-returns-2
-returns-2 c = ?
+returns-2 c = (no-pluck (c .before .before .before .before .before .args .s .now) (c .before .before .before .part-end .result) (c .before .before .before .part-end .ensures) (c .before .part-end2 .result) (c .before .part-end2 .ensures) (omega arith) (c .if2 .taken), tt)
 
--- src/lib.rt:256:29
 add-part-end-2 : tie.Need-add-part-end-2
 add-part-end-2 c = search needs
 
--- src/lib.rt:256:9
 part-end-requires-3 : tie.Need-part-end-requires-3
 part-end-requires-3 c κs = search needs
 
--- src/lib.rt:258:9
 returns-3 : tie.Need-returns-3
-returns-3 c = ?
+returns-3 c = (no-remark (c .before .before .before .before .before .before .before .args .s .now) (c .before .before .before .before .before .part-end .result) (c .before .before .before .before .before .part-end .ensures) (c .before .before .before .part-end2 .result) (c .before .before .before .part-end2 .ensures) (omega arith) (c .before .part-end3 .result) (c .before .part-end3 .ensures) (omega arith) (c .if3 .taken), tt)
 
--- src/lib.rt:245:1
 returns-4 : tie.Need-returns-4
-returns-4 c = ?
+returns-4 c = (fields-are (c .before .before .before .before .before .before .before .args .s .now) (c .before .before .before .before .before .part-end .result) (c .before .before .before .before .before .part-end .ensures) (c .before .before .before .part-end2 .result) (c .before .before .before .part-end2 .ensures) (omega arith) (c .before .part-end3 .result) (c .before .part-end3 .ensures) (omega arith) (omega arith), (omega arith, omega arith, omega arith))
 
 pub fields-spec : {M : Type 1} → statement M
 fields-spec =

@@ -4,6 +4,8 @@ use mathlib.Core.Path.{_≡_, refl, sym, ap, _∙_, subst}
 use mathlib.Core.List.{List, [], _∷_, _++_, map}
 use Prim.Native.Nat.{ℕ, zero, suc, _+_, _-_, _*_, _≤_, _<_, _^_}
 use lib.ListN.{length, getD, take, drop, set, replicate, length-set}
+use borrow.Author.Tests.{lt-ltb, le-ltb, not-true, not-false}
+use Rattle.pallets.specs.Pallets.{parsed}
 use Rattle.pallets.proofs.parse.Statement.{statement}
 use Rattle.pallets.proofs.parse.Tie as tie
 use Rattle.pallets.proofs.parse.Reads as reads
@@ -12,33 +14,30 @@ use Rattle.pallets.proofs.has_controls.Reads as has-controls-reads
 use Rattle.pallets.proofs.said.Reads as said-reads
 use Rattle.table.proofs.utf8.well_formed.Reads as well-formed-reads
 
--- src/lib.rt:328:9
 returns : tie.Need-returns
-returns c = ?
+unfolding parsed
+returns c = simp (lt-ltb _ _ (c .if1 .taken))
 
--- src/lib.rt:330:9
 well-formed-requires : tie.Need-well-formed-requires
 well-formed-requires c κs = search needs
 
--- src/lib.rt:331:9
 returns-2 : tie.Need-returns-2
-returns-2 c = ?
+unfolding parsed
+returns-2 c = simp (le-ltb _ _ (c .before .before .if1 .left), sym (c .before .well-formed .ensures) ∙ not-true _ (c .if2 .taken))
 
--- src/lib.rt:333:8
 has-controls-requires : tie.Need-has-controls-requires
 has-controls-requires c κs = search needs
 
--- src/lib.rt:334:9
 returns-3 : tie.Need-returns-3
-returns-3 c = ?
+unfolding parsed
+returns-3 c = simp (le-ltb _ _ (c .before .before .before .before .if1 .left), sym (c .before .before .before .well-formed .ensures) ∙ not-false _ (c .before .before .if2 .left), sym (c .before .has-controls .ensures) ∙ c .if3 .taken)
 
--- src/lib.rt:336:5
 said-requires : tie.Need-said-requires
 said-requires c κs = search needs
 
--- src/lib.rt:324:1
 returns-4 : tie.Need-returns-4
-returns-4 c = ?
+unfolding parsed
+returns-4 c = c .said .ensures ∙ simp (le-ltb _ _ (c .before .before .before .before .before .if1 .left), sym (c .before .before .before .before .well-formed .ensures) ∙ not-false _ (c .before .before .before .if2 .left), sym (c .before .before .has-controls .ensures) ∙ c .before .if3 .left)
 
 pub parse-spec : {M : Type 1} → statement M
 parse-spec =

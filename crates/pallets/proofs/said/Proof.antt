@@ -4,6 +4,10 @@ use mathlib.Core.Path.{_≡_, refl, sym, ap, _∙_, subst}
 use mathlib.Core.List.{List, [], _∷_, _++_, map}
 use Prim.Native.Nat.{ℕ, zero, suc, _+_, _-_, _*_, _≤_, _<_, _^_}
 use lib.ListN.{length, getD, take, drop, set, replicate, length-set}
+use borrow.Author.Tests.{eq-eqb, ne-eqb}
+use Rattle.pallets.specs.declared.Cuts.{Cuts}
+use Rattle.pallets.specs.Pallets.{palletAt, said, Ordered}
+use Rattle.pallets.proofs.Saying.{said-is}
 use Rattle.pallets.proofs.said.Statement.{statement}
 use Rattle.pallets.proofs.said.Tie as tie
 use Rattle.pallets.proofs.said.Reads as reads
@@ -11,41 +15,36 @@ use Rattle.pallets.proofs.said.Lts as lts
 use Rattle.pallets.proofs.fields.Reads as fields-reads
 use Rattle.pallets.proofs.pallet_at.Reads as pallet-at-reads
 
--- src/lib.rt:311:9
 returns : tie.Need-returns
-returns c = ?
+unfolding said
+returns c = simp (eq-eqb _ _ (c .if1 .taken))
 
--- src/lib.rt:313:8
 shared-slice-read-if2 : tie.Need-shared-slice-read-if2
 shared-slice-read-if2 c = search needs
 
--- src/lib.rt:314:9
 returns-2 : tie.Need-returns-2
-returns-2 c = ?
+unfolding said
+returns-2 c = simp (ne-eqb _ _ (c .before .before .if1 .left), eq-eqb _ _ (c .if2 .taken))
 
--- src/lib.rt:316:9
 fields-requires : tie.Need-fields-requires
 fields-requires c κs = search needs
 
--- src/lib.rt:318:23
 enum-known-fields : tie.Need-enum-known-fields
 enum-known-fields c = search needs
 
--- src/lib.rt:319:18
 enum-known-fields-2 : tie.Need-enum-known-fields-2
 enum-known-fields-2 c = search needs
 
--- src/lib.rt:319:43
 pallet-at-requires : tie.Need-pallet-at-requires
-pallet-at-requires c κs = search needs
+pallet-at-requires c κs = subst (λ (r : Cuts). Ordered r (length (c .before .before .before .before .before .before .before .before .args .s .now))) (c .before .fields3 .given .1) (c .before .before .before .fields .ensures .1)
 
--- src/lib.rt:307:1
 returns-3 : tie.Need-returns-3
-returns-3 c = ?
+unfolding palletAt
+returns-3 c = let s = c .before .before .before .before .before .before .before .before .args .s .now in ap (palletAt s) (sym (c .before .fields2 .given .1) ∙ c .before .before .before .fields .ensures .0) ∙ said-is s (c .before .before .before .before .before .before .if1 .left) (c .before .before .before .before .if2 .left)
 
--- src/lib.rt:307:1
 returns-4 : tie.Need-returns-4
-returns-4 c = ?
+unfolding palletAt
+returns-4 c = let s = c .before .before .before .before .before .before .before .before .before .args .s .now in c .pallet-at .ensures ∙ ap (palletAt s) (sym (c .before .before .fields3 .given .1) ∙ c .before .before .before .before .fields .ensures .0) ∙ said-is s (c .before .before .before .before .before .before .before .if1 .left) (c .before .before .before .before .before .if2 .left)
 
 pub said-spec : {M : Type 1} → statement M
 said-spec =

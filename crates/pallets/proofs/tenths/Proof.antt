@@ -4,6 +4,12 @@ use mathlib.Core.Path.{_≡_, refl, sym, ap, _∙_, subst}
 use mathlib.Core.List.{List, [], _∷_, _++_, map}
 use Prim.Native.Nat.{ℕ, zero, suc, _+_, _-_, _*_, _≤_, _<_, _^_}
 use lib.ListN.{length, getD, take, drop, set, replicate, length-set}
+use mathlib.Core.Path.{ap₂}
+use lib.Seq.{length-take-le}
+use borrow.Author.Tests.{not-true, not-false}
+use Rattle.pallets.specs.Numbers.{tenthsAdd, Small}
+use Rattle.pallets.proofs.Reading.{number-small}
+use Rattle.pallets.proofs.Saying.{tenths-short, tenths-long, tenths-no-point, tenths-are}
 use Rattle.pallets.proofs.tenths.Statement.{statement}
 use Rattle.pallets.proofs.tenths.Tie as tie
 use Rattle.pallets.proofs.tenths.Reads as reads
@@ -12,65 +18,50 @@ use Rattle.pallets.proofs.is_point.Reads as is-point-reads
 use Rattle.pallets.proofs.number.Reads as number-reads
 use Rattle.pallets.proofs.tenths_add.Reads as tenths-add-reads
 
--- src/lib.rt:140:9
 returns : tie.Need-returns
-returns c = ?
+returns c = tenths-short (c .before .before .args .s .now) (c .if1 .taken)
 
--- src/lib.rt:143:9
 returns-2 : tie.Need-returns-2
-returns-2 c = ?
+returns-2 c = tenths-long (c .before .before .before .args .s .now) (c .if2 .taken)
 
--- src/lib.rt:145:15
 sub-end : tie.Need-sub-end
 sub-end c = search needs
 
--- src/lib.rt:146:16
 sub-last : tie.Need-sub-last
 sub-last c = search needs
 
--- src/lib.rt:147:18
 shared-slice-read-is-point : tie.Need-shared-slice-read-is-point
 shared-slice-read-is-point c = search needs
 
--- src/lib.rt:147:9
 is-point-requires : tie.Need-is-point-requires
 is-point-requires c κs = search needs
 
--- src/lib.rt:148:9
 returns-3 : tie.Need-returns-3
-returns-3 c = ?
+returns-3 c = tenths-no-point (c .before .before .before .before .before .before .args .s .now) (omega arith) (omega arith) (sym (c .before .is-point .ensures) ∙ not-true _ (c .if3 .taken))
 
--- src/lib.rt:150:23
 slice-aggregate-number : tie.Need-slice-aggregate-number
-slice-aggregate-number c = search needs
+slice-aggregate-number c = sym (length-take-le _ _ (omega arith))
 
--- src/lib.rt:150:16
 number-requires : tie.Need-number-requires
 number-requires c κs = search needs
 
--- src/lib.rt:150:42
 sub-number : tie.Need-sub-number
 sub-number c = search needs
 
--- src/lib.rt:150:42
 part-number-start : tie.Need-part-number-start
 part-number-start c = search needs
 
--- src/lib.rt:150:42
 part-number-end : tie.Need-part-number-end
 part-number-end c = search needs
 
--- src/lib.rt:150:35
 number-requires-2 : tie.Need-number-requires-2
 number-requires-2 c κs = search needs
 
--- src/lib.rt:150:5
 tenths-add-requires : tie.Need-tenths-add-requires
-tenths-add-requires c κs = search needs
+tenths-add-requires c κs = (subst Small (sym (c .before .before .number .ensures)) (number-small _), subst Small (sym (c .number2 .ensures)) (number-small _))
 
--- src/lib.rt:135:1
 returns-4 : tie.Need-returns-4
-returns-4 c = ?
+returns-4 c = c .tenths-add .ensures ∙ ap₂ tenthsAdd (c .before .before .before .number .ensures) (c .before .number2 .ensures) ∙ tenths-are (c .before .before .before .before .before .before .before .before .before .before .before .args .s .now) (omega arith) (omega arith) (sym (c .before .before .before .before .before .before .is-point .ensures) ∙ not-false _ (c .before .before .before .before .before .if3 .left))
 
 pub tenths-spec : {M : Type 1} → statement M
 tenths-spec =

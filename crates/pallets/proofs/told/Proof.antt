@@ -4,6 +4,9 @@ use mathlib.Core.Path.{_≡_, refl, sym, ap, _∙_, subst}
 use mathlib.Core.List.{List, [], _∷_, _++_, map}
 use Prim.Native.Nat.{ℕ, zero, suc, _+_, _-_, _*_, _≤_, _<_, _^_}
 use lib.ListN.{length, getD, take, drop, set, replicate, length-set}
+use lib.Seq.{length-take-le}
+use Rattle.pallets.specs.Pallets.{parsed, verdictOf}
+use Rattle.pallets.proofs.Saying.{body-within}
 use Rattle.pallets.proofs.told.Statement.{statement}
 use Rattle.pallets.proofs.told.Tie as tie
 use Rattle.pallets.proofs.told.Reads as reads
@@ -11,49 +14,42 @@ use Rattle.pallets.proofs.told.Lts as lts
 use Rattle.pallets.proofs.body_end.Reads as body-end-reads
 use Rattle.pallets.proofs.parse.Reads as parse-reads
 
--- src/lib.rt:345:9
 body-end-requires : tie.Need-body-end-requires
 body-end-requires c κs = search needs
 
--- src/lib.rt:346:22
 slice-aggregate-parse : tie.Need-slice-aggregate-parse
-slice-aggregate-parse c = search needs
+slice-aggregate-parse c = sym (length-take-le _ _ (omega (arith, body-within (c .before .before .before .args .s .now), c .before .body-end .ensures)))
 
--- src/lib.rt:346:9
 parse-requires : tie.Need-parse-requires
 parse-requires c κs = search needs
 
--- src/lib.rt:348:19
 enum-known-line : tie.Need-enum-known-line
 enum-known-line c = search needs
 
--- src/lib.rt:349:24
 enum-told : tie.Need-enum-told
 enum-told c = search needs
 
--- src/lib.rt:350:26
 enum-told-2 : tie.Need-enum-told-2
 enum-told-2 c = search needs
 
--- src/lib.rt:351:25
 enum-told-3 : tie.Need-enum-told-3
 enum-told-3 c = search needs
 
--- src/lib.rt:342:1
 returns : tie.Need-returns
-returns c = ?
+unfolding verdictOf
+returns c = let s = c .before .before .before .before .before .before .before .args .s .now in ap verdictOf (sym (c .before .line .given .1) ∙ c .before .before .before .parse .ensures ∙ ap (λ (k : ℕ). parsed (take k s)) (c .before .before .before .before .before .body-end .ensures))
 
--- src/lib.rt:342:1
 returns-2 : tie.Need-returns-2
-returns-2 c = ?
+unfolding verdictOf
+returns-2 c = let s = c .before .before .before .before .before .before .args .s .now in ap verdictOf (sym (c .enum-told .given .1) ∙ c .before .before .parse .ensures ∙ ap (λ (k : ℕ). parsed (take k s)) (c .before .before .before .before .body-end .ensures))
 
--- src/lib.rt:342:1
 returns-3 : tie.Need-returns-3
-returns-3 c = ?
+unfolding verdictOf
+returns-3 c = let s = c .before .before .before .before .before .before .args .s .now in ap verdictOf (sym (c .enum-told2 .given .1) ∙ c .before .before .parse .ensures ∙ ap (λ (k : ℕ). parsed (take k s)) (c .before .before .before .before .body-end .ensures))
 
--- src/lib.rt:342:1
 returns-4 : tie.Need-returns-4
-returns-4 c = ?
+unfolding verdictOf
+returns-4 c = let s = c .before .before .before .before .before .before .args .s .now in ap verdictOf (sym (c .enum-told3 .given .1) ∙ c .before .before .parse .ensures ∙ ap (λ (k : ℕ). parsed (take k s)) (c .before .before .before .before .body-end .ensures))
 
 pub told-spec : {M : Type 1} → statement M
 told-spec =
