@@ -32,6 +32,7 @@ const PLUCK: usize = 6;
 
 // The nodes that all rows share.
 pub struct Shared {
+    none: NodeNo,
     hardline: NodeNo,
     softline: NodeNo,
 }
@@ -136,7 +137,8 @@ fn together(s: &[u8], from: usize) -> usize
     let mut i = from;
     while i < s.len() {
         let b = s[i];
-        if 127 < b && b < 192 {
+        let starts = (b < 128) | (191 < b);
+        if !starts {
             i += 1;
             continue;
         }
@@ -154,36 +156,43 @@ fn together(s: &[u8], from: usize) -> usize
     i
 }
 
-// The words filled by softlines.
-fn words(c: Counts, table: &mut [u32], text: &mut [u8], softline: NodeNo, s: &[u8]) -> Made {
-    let first = c.nil(table, text);
-    let Made::Node(c, n) = first else {
-        return first;
+// What stands, what comes between, and one Text more.
+fn add_word(
+    c: Counts,
+    table: &mut [u32],
+    text: &mut [u8],
+    n: NodeNo,
+    between: NodeNo,
+    bytes: &[u8],
+) -> Made {
+    let made = c.append(table, text, n, between);
+    let Made::Node(c, n) = made else {
+        return made;
     };
+    let made = leaf(c, table, text, bytes);
+    let Made::Node(c, word) = made else {
+        return made;
+    };
+    c.append(table, text, n, word)
+}
+
+// The words filled by softlines; of none the shared Nil.
+fn words(c: Counts, table: &mut [u32], text: &mut [u8], shared: Shared, s: &[u8]) -> Made {
+    let softline = shared.softline;
     let mut c = c;
-    let mut n = n;
+    let mut n = shared.none;
+    let mut between = n;
     let mut at = skip(s, 0);
     while at < s.len() {
         let end = together(s, at);
-        let made = leaf(c, table, text, &s[at..end]);
-        let Made::Node(next, word) = made else {
-            return made;
-        };
-        let made = next.append(table, text, n, word);
+        let made = add_word(c, table, text, n, between, &s[at..end]);
         let Made::Node(next, joined) = made else {
             return made;
         };
-        at = skip(s, end);
         c = next;
         n = joined;
-        if at < s.len() {
-            let made = c.append(table, text, n, softline);
-            let Made::Node(next, joined) = made else {
-                return made;
-            };
-            c = next;
-            n = joined;
-        }
+        between = softline;
+        at = skip(s, end);
     }
     Made::Node(c, n)
 }
@@ -202,7 +211,8 @@ fn put_field(
     ensures { λ r. ⌜ (r ≤ length (now (out .exit))) × (length (now (out .exit)) ≡ length (now (out .entry))) ⌝ }
 {
     let end = pallets::part_end(line, from, b';');
-    let at = further(out, at, missing(end - from, width));
+    let blanks = missing(end - from, width);
+    let at = further(out, at, blanks);
     let at = put(out, at, line, from, end);
     put(out, at, unit, 0, unit.len())
 }
@@ -211,8 +221,11 @@ fn put_field(
 fn put_row(out: &mut [u8], line: &[u8], p: Pallet) -> usize
     ensures { λ r. ⌜ (r ≤ length (now (out .exit))) × (length (now (out .exit)) ≡ length (now (out .entry))) ⌝ }
 {
-    let n = put(out, 0, line, 0, pallets::part_end(line, 0, b';'));
-    let at = further(out, n, missing(pallets::columns(&out[..n]), NOTE));
+    let end = pallets::part_end(line, 0, b';');
+    let n = put(out, 0, line, 0, end);
+    let wide = pallets::columns(&out[..n]);
+    let blanks = missing(wide, NOTE);
+    let at = further(out, n, blanks);
     let at = put_field(out, at, line, p.force, FORCE, b" g");
     put_field(out, at, line, p.pluck, PLUCK, b" mm")
 }
@@ -238,7 +251,7 @@ fn remarked(
     let Made::Node(c, first) = made else {
         return made;
     };
-    let made = words(c, table, text, shared.softline, remark);
+    let made = words(c, table, text, shared, remark);
     let Made::Node(c, filled) = made else {
         return made;
     };
@@ -294,19 +307,20 @@ fn row(
 
 // What a line adds to the sheet: a row, a heading, an empty line.
 fn part(c: Counts, table: &mut [u32], text: &mut [u8], shared: Shared, line: &[u8]) -> Made {
+    let none = shared.none;
     let hardline = shared.hardline;
     let says = pallets::parse(line);
     match says {
         Line::Row(p) => row(c, table, text, shared, line, p),
         Line::Heading => {
-            let made = words(c, table, text, shared.softline, &line[1..]);
+            let made = words(c, table, text, shared, &line[1..]);
             let Made::Node(c, n) = made else {
                 return made;
             };
             c.append(table, text, n, hardline)
         }
         Line::Empty => Made::Node(c, hardline),
-        Line::Bad(_) => c.nil(table, text),
+        Line::Bad(_) => Made::Node(c, none),
     }
 }
 
@@ -327,17 +341,10 @@ fn added(
     c.append(table, text, n, one)
 }
 
-// Adds the lines of the input to what stands.
-fn add_lines(
-    c: Counts,
-    table: &mut [u32],
-    text: &mut [u8],
-    shared: Shared,
-    n: NodeNo,
-    input: &[u8],
-) -> Built {
+// Adds the lines of the input in order.
+fn add_lines(c: Counts, table: &mut [u32], text: &mut [u8], shared: Shared, input: &[u8]) -> Built {
     let mut c = c;
-    let mut n = n;
+    let mut n = shared.none;
     let mut before = 0;
     let mut at = 0;
     while at < input.len() {
@@ -366,7 +373,7 @@ fn add_lines(
 pub fn build(input: &[u8], table: &mut [u32], text: &mut [u8]) -> Built {
     let c = Counts { nodes: 0, bytes: 0 };
     let made = c.nil(table, text);
-    let Made::Node(c, n) = made else {
+    let Made::Node(c, none) = made else {
         return Built::Full(0, Why::Nodes);
     };
     let made = c.hardline(table, text);
@@ -377,6 +384,10 @@ pub fn build(input: &[u8], table: &mut [u32], text: &mut [u8]) -> Built {
     let Made::Node(c, softline) = made else {
         return Built::Full(0, Why::Nodes);
     };
-    let shared = Shared { hardline, softline };
-    add_lines(c, table, text, shared, n, input)
+    let shared = Shared {
+        none,
+        hardline,
+        softline,
+    };
+    add_lines(c, table, text, shared, input)
 }
