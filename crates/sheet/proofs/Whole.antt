@@ -1,28 +1,28 @@
 -- A whole call: sizes, then the table's faults, then the run; and the buffers afterwards.
 -- Assumes nothing.
-use mathlib.Core.Path.{_≡_, refl, sym, ap, _∙_}
-use Prim.Native.Nat.{ℕ, zero, suc, _+_, _-_, _*_, _/_, _%_, _≤_, _<_}
+use mathlib.Core.Path.{_≡_, sym, ap, _∙_}
+use Prim.Native.Nat.{ℕ, _-_, _*_, _/_, _≤_, _<_}
 use native.Mathlib.Omega.{arith}
-use mathlib.Core.Bool.{Bool, true, false, _&&_}
-use mathlib.Core.List.{List, [], _++_}
+use mathlib.Core.Bool.{true, false, _&&_}
+use mathlib.Core.List.{List}
 use lib.ListN.{length, take, replicate}
 use lib.Seq.{length-take-le}
-use lib.Dec.{eqb, leb}
+use lib.Dec.{leb}
 use borrow.Author.Tests.{eq-eqb, ne-eqb, leb-true}
 use Rattle.buffer.specs.Run.{zeroed}
-use Rattle.table.specs.Fault.{Fault, check}
+use Rattle.table.specs.Fault.{check}
 use Rattle.table.specs.Unfold.{tree, root}
 use Rattle.table.specs.declared.NodeNo.{NodeNo}
 use Rattle.table.proofs.Tests.{and-true}
 use Rattle.table.proofs.Accept.{accepted-of}
 use Rattle.table.proofs.Sound.{valid-check}
 use Rattle.rules.specs.Layout as rules
-use Rattle.rules.specs.Call.{Given, buffersRight, limits, refusal, call, wordsOf, padded}
+use Rattle.rules.specs.Call.{Given, buffersRight, limits, refusal, call, wordsOf}
 use Rattle.machine.proofs.Rules.{layout-is}
 use Rattle.lay.specs.State.{eventsOf}
 use Rattle.lay.proofs.Events.{length-events}
-use Rattle.render.specs.Visit.{envOf}
-use Rattle.render.specs.Best.{Start, Laid}
+use Rattle.render.specs.Visit.{Start}
+use Rattle.render.specs.Best.{Laid}
 use Rattle.render.specs.declared.End.{End}
 use Rattle.sheet.specs.Called.{given, Called, Decided}
 use Rattle.sheet.specs.declared.Report.{Report}
@@ -30,15 +30,15 @@ use Rattle.sheet.proofs.Words.{words-front}
 
 -- ---- which answer
 
-call-sizes : (g : Given) → buffersRight g ≡ false → call g ≡ refusal 1 0
+pub call-sizes : (g : Given) → buffersRight g ≡ false → call g ≡ refusal 1 0
 unfolding call
 call-sizes g e = rw e
 
-call-fault : (g : Given) → buffersRight g ≡ true → (check (g .table) (g .text) .answer ≡ 0 → ⊥) → call g ≡ refusal (check (g .table) (g .text) .answer) (check (g .table) (g .text) .place)
+pub call-fault : (g : Given) → buffersRight g ≡ true → (check (g .table) (g .text) .answer ≡ 0 → ⊥) → call g ≡ refusal (check (g .table) (g .text) .answer) (check (g .table) (g .text) .place)
 unfolding call
 call-fault g e ne = rw (e, ne-eqb _ _ ne)
 
-call-run : (g : Given) → buffersRight g ≡ true → check (g .table) (g .text) .answer ≡ 0 → call g ≡ rules.layout (limits g) (tree (g .table) (g .text) (root (g .table)))
+pub call-run : (g : Given) → buffersRight g ≡ true → check (g .table) (g .text) .answer ≡ 0 → call g ≡ rules.layout (limits g) (tree (g .table) (g .text) (root (g .table)))
 unfolding call
 call-run g e z = rw (e, eq-eqb _ _ z)
 
@@ -57,13 +57,13 @@ fault-decided g r out ev a n e f ne er = refusal-decided g r out ev a n er (call
 
 -- ---- the run
 
-buffers-of : (g : Given) → buffersRight g ≡ true → (g .room ≤ 65536) × (g .slots ≤ 4096) × (16384 ≤ g .work) × (g .width ≤ 65535)
+pub buffers-of : (g : Given) → buffersRight g ≡ true → (g .room ≤ 65536) × (g .slots ≤ 4096) × (16384 ≤ g .work) × (g .width ≤ 65535) × (g .limit ≤ 100000000)
 buffers-of g h =
     let b = and-true (leb (g .room) 65536 && leb (g .slots) 4096 && leb 16384 (g .work) && leb (g .width) 65535) (leb (g .limit) 100000000) h in
     let c = and-true (leb (g .room) 65536 && leb (g .slots) 4096 && leb 16384 (g .work)) (leb (g .width) 65535) (b .0) in
     let d = and-true (leb (g .room) 65536 && leb (g .slots) 4096) (leb 16384 (g .work)) (c .0) in
     let e = and-true (leb (g .room) 65536) (leb (g .slots) 4096) (d .0) in
-    (leb-true _ _ (e .0), leb-true _ _ (e .1), leb-true _ _ (d .1), leb-true _ _ (c .1))
+    (leb-true _ _ (e .0), leb-true _ _ (e .1), leb-true _ _ (d .1), leb-true _ _ (c .1), leb-true _ _ (b .1))
 
 module _ (T tx out ev w : List ℕ) (W limit : ℕ) (right : buffersRight (given T tx W limit (length out) (length ev) (length w)) ≡ true) (sound : check T tx .answer ≡ 0) where
   pub nodes-small : length T / 4 < 4294967296

@@ -1,12 +1,11 @@
--- The first n event records, as words, are the front of the slice.
+-- The first n event records, as words, are the front of the slice; and records are known by their words.
 -- Assumes nothing.
 use mathlib.Core.Path.{_≡_, refl, sym, ap, _∙_}
-use Prim.Native.Nat.{ℕ, zero, suc, _+_, _*_, _≤_, _<_}
+use Prim.Native.Nat.{ℕ, zero, suc, _+_, _*_, _≤_}
 use native.Mathlib.Omega.{arith}
-use native.Mathlib.Nat.{add-zero, add-suc}
 use native.Mathlib.Numerals.{add-one, add-two}
 use mathlib.Core.List.{List, [], _∷_, _++_, append-assoc}
-use lib.ListN.{getD, length, take}
+use lib.ListN.{getD, length, take, drop}
 use lib.Seq.{take-suc}
 use Rattle.rules.specs.Layout.{Event}
 use Rattle.rules.specs.Call.{wordsOf}
@@ -32,3 +31,16 @@ words-front zero ev h = refl
 words-front (suc n) ev h =
     let e : suc n * 3 ≡ n * 3 + 3 = omega arith in
     words-append (eventsOf n ev) (eventAt ev n ∷ []) ∙ rw (words-front n ev (omega arith), e) (sym (take-three ev (n * 3) (omega arith)))
+
+-- what was noted is known by its words
+pub words-injective : (es fs : List Event) → wordsOf es ≡ wordsOf fs → es ≡ fs
+unfolding wordsOf
+words-injective [] [] h = refl
+words-injective [] (f ∷ fs) h = absurd (omega (arith, ap length h))
+words-injective (e ∷ es) [] h = absurd (omega (arith, ap length h))
+words-injective (e ∷ es) (f ∷ fs) h =
+    let a : e .offset ≡ f .offset = ap (λ (l : List ℕ). getD l 0 0) h in
+    let b : e .mark ≡ f .mark = ap (λ (l : List ℕ). getD l 1 0) h in
+    let c : e .label ≡ f .label = ap (λ (l : List ℕ). getD l 2 0) h in
+    let r : es ≡ fs = words-injective es fs (ap (λ (l : List ℕ). drop 3 l) h) in
+    λ i. record { offset = a i; mark = b i; label = c i } ∷ r i

@@ -1,69 +1,49 @@
+-- `sheet::decide` meets its contract: the sizes, then the table's fault, then the run.
+-- Assumes nothing.
 use borrow.Author.Tests.{not-true, not-false}
 use Rattle.sheet.proofs.Whole.{sizes-decided, fault-decided, nodes-small, start-of, run-decided}
 use borrow.Author.Needs.{needs}
 use native.Mathlib.Omega.{arith}
-use mathlib.Core.Path.{_≡_, refl, sym, ap, _∙_, subst}
-use mathlib.Core.List.{List, [], _∷_, _++_, map}
-use Prim.Native.Nat.{ℕ, zero, suc, _+_, _-_, _*_, _≤_, _<_, _^_}
-use lib.ListN.{length, getD, take, drop, set, replicate, length-set}
+use mathlib.Core.Path.{sym, _∙_}
 use Rattle.sheet.proofs.decide.Statement.{statement}
 use Rattle.sheet.proofs.decide.Tie as tie
-use Rattle.sheet.proofs.decide.Reads as reads
-use Rattle.sheet.proofs.decide.Lts as lts
-use Rattle.render.proofs.best.Reads as best-reads
-use Rattle.sheet.proofs.buffers_right.Reads as buffers-right-reads
-use Rattle.sheet.proofs.refused.Reads as refused-reads
-use Rattle.table.proofs.validate.Reads as validate-reads
 
--- src/lib.rt:52:9
 buffers-right-requires : tie.Need-buffers-right-requires
 buffers-right-requires c κs = search needs
 
--- src/lib.rt:53:9
 refused-requires : tie.Need-refused-requires
 refused-requires c κs = search needs
 
--- src/lib.rt:53:9
 returns : tie.Need-returns
 returns c = sizes-decided _ _ _ _ (sym (c .before .before .buffers-right .ensures) ∙ not-true _ (c .before .if1 .taken)) (c .refused .ensures)
 
--- src/lib.rt:55:9
 validate-requires : tie.Need-validate-requires
 validate-requires c κs = search needs
 
--- src/lib.rt:58:9
 refused-requires-2 : tie.Need-refused-requires-2
 refused-requires-2 c κs = search needs
 
--- src/lib.rt:58:9
 returns-2 : tie.Need-returns-2
 returns-2 c = fault-decided _ _ _ _ _ _ (sym (c .before .before .before .before .before .before .buffers-right .ensures) ∙ not-false _ (c .before .before .before .before .before .if1 .left)) (c .before .before .before .before .validate .ensures) (c .before .if2 .taken) (c .refused2 .ensures)
 
--- src/lib.rt:60:17
 cast-nodes : tie.Need-cast-nodes
 cast-nodes c = let s = c .before .before .before .before .before .before .before .before .before .before .before in let n = nodes-small (s .args .table .now) (s .args .text .now) (s .args .out .now) (s .args .events .now) (s .args .work .now) (s .args .width) (s .args .limit) (sym (c .before .before .before .before .before .buffers-right .ensures) ∙ not-false _ (c .before .before .before .before .if1 .left)) (sym (c .before .before .before .validate .ensures .0) ∙ c .if2 .left) in omega arith
 
--- src/lib.rt:61:9
 best-requires : tie.Need-best-requires
 best-requires c κs = let s = c .before .before .before .before .before .before .before .before .before .before .before .before .before .before in start-of (s .args .table .now) (s .args .text .now) (s .args .out .now) (s .args .events .now) (s .args .work .now) (s .args .width) (s .args .limit) (sym (c .before .before .before .before .before .before .before .before .buffers-right .ensures) ∙ not-false _ (c .before .before .before .before .before .before .before .if1 .left)) (sym (c .before .before .before .before .before .before .validate .ensures .0) ∙ c .before .before .before .if2 .left)
 
--- src/lib.rt:66:16
 sub-t25 : tie.Need-sub-t25
 sub-t25 c = omega (arith, c .before .before .before .before .before .before .before .before .best .ensures .left)
 
--- src/lib.rt:49:1
 same-length : tie.Need-same-length
 same-length c = c .before .before .before .before .before .before .before .before .best .kept .1 .1 .0
 
--- src/lib.rt:49:1
 same-length-2 : tie.Need-same-length-2
 same-length-2 c = c .before .before .before .before .before .before .before .before .best .kept .1 .1 .1 .0
 
--- src/lib.rt:49:1
 same-length-3 : tie.Need-same-length-3
 same-length-3 c = c .before .before .before .before .before .before .before .before .best .kept .1 .1 .1 .1 .0
 
--- src/lib.rt:49:1
 returns-3 : tie.Need-returns-3
 returns-3 c = let s = c .before .before .before .before .before .before .before .before .before .before .before .before .before .before .before .before .before .before .before .before .before .before .before in run-decided (s .args .table .now) (s .args .text .now) (s .args .out .now) (s .args .events .now) (s .args .work .now) (s .args .width) (s .args .limit) (sym (c .before .before .before .before .before .before .before .before .before .before .before .before .before .before .before .before .before .buffers-right .ensures) ∙ not-false _ (c .before .before .before .before .before .before .before .before .before .before .before .before .before .before .before .before .if1 .left)) (sym (c .before .before .before .before .before .before .before .before .before .before .before .before .before .before .before .validate .ensures .0) ∙ c .before .before .before .before .before .before .before .before .before .before .before .before .if2 .left) _ _ _ (c .before .before .before .before .before .before .before .before .best .ensures)
 

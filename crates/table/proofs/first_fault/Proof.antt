@@ -29,8 +29,8 @@ loop-holds c = (omega arith, first-zero (c .before .before .before .args .table 
 mul-at : tie.Need-mul-at Inv-loop μ-loop
 mul-at c = search needs
 
-cast-place : tie.Need-cast-place Inv-loop μ-loop
-cast-place c = search needs
+cast-k : tie.Need-cast-k Inv-loop μ-loop
+cast-k c = search needs
 
 mul-k : tie.Need-mul-k Inv-loop μ-loop
 mul-k c = search needs
@@ -132,7 +132,7 @@ first-fault-spec =
     all-kinds-requires
     loop-holds
     mul-at
-    cast-place
+    cast-k
     mul-k
     shared-slice-read-k
     returns

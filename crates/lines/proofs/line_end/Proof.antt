@@ -1,9 +1,9 @@
--- `validate_replay::line_end` meets its contract. Assumes nothing.
+-- `lines::line_end` meets its contract. Assumes nothing.
 use borrow.Author.Needs.{needs}
 use Prim.Native.Nat.{_-_, _≤_}
 use lib.ListN.{length}
-use Rattle.validate_replay.proofs.line_end.Statement.{statement}
-use Rattle.validate_replay.proofs.line_end.Tie as tie
+use Rattle.lines.proofs.line_end.Statement.{statement}
+use Rattle.lines.proofs.line_end.Tie as tie
 
 abbrev Inv-loop : tie.InvT-loop
 Inv-loop input from at₀ at = (from ≤ at) × (at ≤ length input)

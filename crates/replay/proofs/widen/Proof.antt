@@ -1,16 +1,16 @@
--- `validate_replay::narrow` is safe and ends. Assumes nothing.
+-- `replay::widen` is safe and ends. Assumes nothing.
 use borrow.Author.Needs.{needs}
 use mathlib.Core.Path.{_≡_}
 use Prim.Native.Nat.{_-_}
-use lib.ListN.{length, length-set}
-use Rattle.validate_replay.proofs.narrow.Statement.{statement}
-use Rattle.validate_replay.proofs.narrow.Tie as tie
+use lib.ListN.{length}
+use Rattle.replay.proofs.widen.Statement.{statement}
+use Rattle.replay.proofs.widen.Tie as tie
 
 abbrev Inv-loop : tie.InvT-loop
-Inv-loop wide bytes₀ i₀ bytes i = length bytes ≡ length bytes₀
+Inv-loop bytes wide₀ i₀ wide i = length wide ≡ length wide₀
 
 abbrev μ-loop : tie.MeasureT-loop
-μ-loop wide bytes₀ i₀ bytes i = length bytes₀ - i
+μ-loop bytes wide₀ i₀ wide i = length wide₀ - i
 
 loop-holds : tie.Need-loop-holds Inv-loop μ-loop
 loop-holds c = search needs
@@ -21,17 +21,17 @@ same-length c = search needs
 returns : tie.Need-returns Inv-loop μ-loop
 returns c = search needs
 
-mul-bytes : tie.Need-mul-bytes Inv-loop μ-loop
-mul-bytes c = search needs
+shared-slice-read-as-word : tie.Need-shared-slice-read-as-word Inv-loop μ-loop
+shared-slice-read-as-word c = search needs
 
-shared-slice-read-bytes : tie.Need-shared-slice-read-bytes Inv-loop μ-loop
-shared-slice-read-bytes c = search needs
+as-word-requires : tie.Need-as-word-requires Inv-loop μ-loop
+as-word-requires c κs = search needs
 
-cast-bytes : tie.Need-cast-bytes Inv-loop μ-loop
-cast-bytes c = search needs
+mul-wide : tie.Need-mul-wide Inv-loop μ-loop
+mul-wide c = search needs
 
-slice-write-bytes : tie.Need-slice-write-bytes Inv-loop μ-loop
-slice-write-bytes c = search needs
+slice-write-wide : tie.Need-slice-write-wide Inv-loop μ-loop
+slice-write-wide c = search needs
 
 add-i : tie.Need-add-i Inv-loop μ-loop
 add-i c = search needs
@@ -48,8 +48,8 @@ same-length-2 c = search needs
 returns-2 : tie.Need-returns-2 Inv-loop μ-loop
 returns-2 c = search needs
 
-pub narrow-spec : {M : Type 1} → statement M
-narrow-spec =
+pub widen-spec : {M : Type 1} → statement M
+widen-spec =
     tie.close
     (tie.spec
     Inv-loop
@@ -57,10 +57,10 @@ narrow-spec =
     loop-holds
     same-length
     returns
-    mul-bytes
-    shared-slice-read-bytes
-    cast-bytes
-    slice-write-bytes
+    shared-slice-read-as-word
+    as-word-requires
+    mul-wide
+    slice-write-wide
     add-i
     loop-less
     loop-again

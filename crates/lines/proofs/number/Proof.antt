@@ -1,9 +1,9 @@
--- `validate_replay::number` meets its contract. Assumes nothing.
+-- `lines::number` meets its contract. Assumes nothing.
 use borrow.Author.Needs.{needs}
 use Prim.Native.Nat.{_-_, _≤_}
 use lib.ListN.{length}
-use Rattle.validate_replay.proofs.number.Statement.{statement}
-use Rattle.validate_replay.proofs.number.Tie as tie
+use Rattle.lines.proofs.number.Statement.{statement}
+use Rattle.lines.proofs.number.Tie as tie
 
 abbrev Inv-loop : tie.InvT-loop
 Inv-loop line from base first value₀ at₀ value at = (from ≤ at) × (at ≤ length line)

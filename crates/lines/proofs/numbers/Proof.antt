@@ -1,11 +1,10 @@
--- `validate_replay::numbers` meets its contract. Assumes nothing.
+-- `lines::numbers` meets its contract. Assumes nothing.
 use borrow.Author.Needs.{needs}
-use native.Mathlib.Omega.{arith}
 use mathlib.Core.Path.{_≡_}
 use Prim.Native.Nat.{_-_, _≤_}
 use lib.ListN.{length}
-use Rattle.validate_replay.proofs.numbers.Statement.{statement}
-use Rattle.validate_replay.proofs.numbers.Tie as tie
+use Rattle.lines.proofs.numbers.Statement.{statement}
+use Rattle.lines.proofs.numbers.Tie as tie
 
 abbrev Inv-loop : tie.InvT-loop
 Inv-loop line from base out₀ count₀ at₀ out count at = (at ≤ length line) × (count ≤ length out) × (length out ≡ length out₀)
