@@ -89,3 +89,6 @@ mod sheet {
         shown
     }
 }
+
+#[cfg(pretty)]
+extern crate pretty;

@@ -376,13 +376,14 @@ pub fn check(input: &[u8]) -> Checked
 // ---- the printed sheet
 
 // Whether a mark is open at an offset of the output: events are three words each, an offset, 1 for an opening or 0, and a label, in order.
-pub fn marked(events: &[u32], at: u32) -> bool
+pub fn marked(events: &[u32], at: usize) -> bool
     ensures { λ r. ⌜ r ≡ markedAt (now (events .entry)) at ⌝ }
 {
     let mut open: usize = 0;
     let mut i = 0;
     while i + 2 < events.len() {
-        if at < events[i] {
+        let offset = events[i] as usize;
+        if at < offset {
             return 0 < open;
         }
         let mark = events[i + 1];

@@ -77,6 +77,14 @@ fn put(out: &mut [u8], at: usize, src: &[u8], from: usize, end: usize) -> usize
     n
 }
 
+// The first so many bytes, or all.
+fn bytes_front(s: &[u8], n: usize) -> &[u8] {
+    if s.len() < n {
+        return s;
+    }
+    &s[..n]
+}
+
 // The place so many bytes further, where there is room for them.
 fn further(out: &[u8], at: usize, by: usize) -> usize
     ensures { λ r. ⌜ r ≤ length (now (out .entry)) ⌝ }
@@ -176,13 +184,20 @@ fn add_word(
     c.append(table, text, n, word)
 }
 
-// The words filled by softlines; of none the shared Nil.
-fn words(c: Counts, table: &mut [u32], text: &mut [u8], shared: Shared, s: &[u8]) -> Made {
+// The words from there on, filled by softlines; of none the shared Nil.
+fn words(
+    c: Counts,
+    table: &mut [u32],
+    text: &mut [u8],
+    shared: Shared,
+    s: &[u8],
+    from: usize,
+) -> Made {
     let softline = shared.softline;
     let mut c = c;
     let mut n = shared.none;
     let mut between = n;
-    let mut at = skip(s, 0);
+    let mut at = skip(s, from);
     while at < s.len() {
         let end = together(s, at);
         let made = add_word(c, table, text, n, between, &s[at..end]);
@@ -223,52 +238,95 @@ fn put_row(out: &mut [u8], line: &[u8], p: Pallet) -> usize
 {
     let end = pallets::part_end(line, 0, b';');
     let n = put(out, 0, line, 0, end);
-    let wide = pallets::columns(&out[..n]);
+    let wide = pallets::columns(bytes_front(out, n));
     let blanks = missing(wide, NOTE);
     let at = further(out, n, blanks);
     let at = put_field(out, at, line, p.force, FORCE, b" g");
     put_field(out, at, line, p.pluck, PLUCK, b" mm")
 }
 
-// The row with its remark: beside it and a Hardline, or filled below it and a Hardline.
+// The remark beside the row, and a Hardline.
+fn beside(
+    c: Counts,
+    table: &mut [u32],
+    text: &mut [u8],
+    shared: Shared,
+    fixed: NodeNo,
+    remark: &[u8],
+) -> Made {
+    let mut space = [32u8; 256];
+    let n = put(&mut space, 2, remark, 0, remark.len());
+    let made = leaf(c, table, text, bytes_front(&space, n));
+    let Made::Node(c, one) = made else {
+        return made;
+    };
+    let nodes = [fixed.0, one.0, shared.hardline.0];
+    c.concat(table, text, &nodes)
+}
+
+// The remark filled below the row, and a Hardline.
+fn below(
+    c: Counts,
+    table: &mut [u32],
+    text: &mut [u8],
+    shared: Shared,
+    fixed: NodeNo,
+    remark: &[u8],
+) -> Made {
+    let hardline = shared.hardline;
+    let made = words(c, table, text, shared, remark, 0);
+    let Made::Node(c, filled) = made else {
+        return made;
+    };
+    let made = c.append(table, text, hardline, filled);
+    let Made::Node(c, lower) = made else {
+        return made;
+    };
+    let made = c.nest(table, text, lower, Indent(BELOW), 0);
+    let Made::Node(c, lower) = made else {
+        return made;
+    };
+    let nodes = [fixed.0, lower.0, hardline.0];
+    c.concat(table, text, &nodes)
+}
+
+// The row with its remark, beside it if it fits there, else below.
 fn remarked(
     c: Counts,
     table: &mut [u32],
     text: &mut [u8],
     shared: Shared,
-    row: NodeNo,
+    fixed: NodeNo,
     remark: &[u8],
 ) -> Made {
-    let hardline = shared.hardline;
-    let mut space = [32u8; 256];
-    let n = put(&mut space, 2, remark, 0, remark.len());
-    let made = leaf(c, table, text, &space[..n]);
-    let Made::Node(c, beside) = made else {
-        return made;
-    };
-    let first = [row.0, beside.0, hardline.0];
-    let made = c.concat(table, text, &first);
+    let made = beside(c, table, text, shared, fixed, remark);
     let Made::Node(c, first) = made else {
         return made;
     };
-    let made = words(c, table, text, shared, remark);
-    let Made::Node(c, filled) = made else {
-        return made;
-    };
-    let made = c.append(table, text, hardline, filled);
-    let Made::Node(c, below) = made else {
-        return made;
-    };
-    let made = c.nest(table, text, below, Indent(BELOW), 0);
-    let Made::Node(c, below) = made else {
-        return made;
-    };
-    let second = [row.0, below.0, hardline.0];
-    let made = c.concat(table, text, &second);
+    let made = below(c, table, text, shared, fixed, remark);
     let Made::Node(c, second) = made else {
         return made;
     };
     c.union(table, text, first, second)
+}
+
+// The row with the remark that starts there, if it has one.
+fn ended(
+    c: Counts,
+    table: &mut [u32],
+    text: &mut [u8],
+    shared: Shared,
+    fixed: NodeNo,
+    line: &[u8],
+    from: usize,
+) -> Made {
+    let hardline = shared.hardline;
+    let end = trimmed(line);
+    let from = skip(line, from);
+    if end <= from {
+        return c.append(table, text, fixed, hardline);
+    }
+    remarked(c, table, text, shared, fixed, &line[from..end])
 }
 
 // A row with its mark, if it is out of tolerance.
@@ -282,17 +340,11 @@ fn row(
 ) -> Made {
     let mut space = [32u8; 64];
     let n = put_row(&mut space, line, p);
-    let made = leaf(c, table, text, &space[..n]);
+    let made = leaf(c, table, text, bytes_front(&space, n));
     let Made::Node(c, fixed) = made else {
         return made;
     };
-    let end = trimmed(line);
-    let from = skip(line, p.remark);
-    let made = if from < end {
-        remarked(c, table, text, shared, fixed, &line[from..end])
-    } else {
-        c.append(table, text, fixed, shared.hardline)
-    };
+    let made = ended(c, table, text, shared, fixed, line, p.remark);
     let label = pallets::label(p.grams, p.tenths);
     if label == 0 {
         return made;
@@ -313,7 +365,7 @@ fn part(c: Counts, table: &mut [u32], text: &mut [u8], shared: Shared, line: &[u
     match says {
         Line::Row(p) => row(c, table, text, shared, line, p),
         Line::Heading => {
-            let made = words(c, table, text, shared, &line[1..]);
+            let made = words(c, table, text, shared, line, 1);
             let Made::Node(c, n) = made else {
                 return made;
             };

@@ -64,6 +64,22 @@ fn tell_full(fd: i32, why: Why) -> bool {
 
 // ---- printing
 
+// The first so many bytes, or all.
+fn bytes_front(s: &[u8], n: usize) -> &[u8] {
+    if s.len() < n {
+        return s;
+    }
+    &s[..n]
+}
+
+// The first so many words, or all.
+fn words_front(s: &[u32], n: usize) -> &[u32] {
+    if s.len() < n {
+        return s;
+    }
+    &s[..n]
+}
+
 // Prints one line with its margin: `! ` where a mark is open.
 fn print_line(fd: i32, line: &[u8], marked: bool) {
     if marked {
@@ -80,8 +96,7 @@ fn print_all(fd: i32, out: &[u8], events: &[u32]) {
     let mut at = 0;
     while at < out.len() {
         let end = pallets::part_end(out, at, 10);
-        let marked = pallets::marked(events, at as u32);
-        print_line(fd, &out[at..end], marked);
+        print_line(fd, &out[at..end], pallets::marked(events, at));
         if out.len() <= end {
             return;
         }
@@ -103,7 +118,7 @@ fn lay_out(table: &[u32], text: &[u8], print: i32, tell: i32) {
     }
     let used = r.used as usize;
     let words = r.marks as usize * 3;
-    print_all(print, &out[..used], &events[..words]);
+    print_all(print, bytes_front(&out, used), words_front(&events, words));
 }
 
 // ---- the whole run
@@ -127,7 +142,12 @@ pub fn run(input: &[u8], print: i32, tell: i32) {
         Built::Sheet(c, n) => {
             let words = n.0 as usize * 4 + 4;
             let bytes = c.bytes as usize;
-            lay_out(&table[..words], &text[..bytes], print, tell);
+            lay_out(
+                words_front(&table, words),
+                bytes_front(&text, bytes),
+                print,
+                tell,
+            );
         }
     }
 }

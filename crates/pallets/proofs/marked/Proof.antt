@@ -24,11 +24,14 @@ loop-holds c = (omega arith, omega arith, refl)
 add-loop : tie.Need-add-loop Inv-loop μ-loop
 add-loop c = search needs
 
-mul-if1 : tie.Need-mul-if1 Inv-loop μ-loop
-mul-if1 c = search needs
+mul-offset : tie.Need-mul-offset Inv-loop μ-loop
+mul-offset c = search needs
 
-shared-slice-read-if1 : tie.Need-shared-slice-read-if1 Inv-loop μ-loop
-shared-slice-read-if1 c = search needs
+shared-slice-read-offset : tie.Need-shared-slice-read-offset Inv-loop μ-loop
+shared-slice-read-offset c = search needs
+
+cast-offset : tie.Need-cast-offset Inv-loop μ-loop
+cast-offset c = omega (arith, c .shared-slice-known .given (c .before .before .loop .i))
 
 returns : tie.Need-returns Inv-loop μ-loop
 unfolding markedAt
@@ -82,8 +85,9 @@ marked-spec =
     μ-loop
     loop-holds
     add-loop
-    mul-if1
-    shared-slice-read-if1
+    mul-offset
+    shared-slice-read-offset
+    cast-offset
     returns
     add-mark
     mul-mark

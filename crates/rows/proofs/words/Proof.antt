@@ -13,10 +13,10 @@ use Rattle.rows.proofs.skip.Reads as skip-reads
 use Rattle.rows.proofs.together.Reads as together-reads
 
 abbrev Inv-loop : tie.InvT-loop
-Inv-loop table₀ text₀ s softline c₀ n₀ between₀ at₀ table text c n between at = (length table ≡ length table₀) × (length text ≡ length text₀)
+Inv-loop table₀ text₀ s from softline c₀ n₀ between₀ at₀ table text c n between at = (length table ≡ length table₀) × (length text ≡ length text₀)
 
 abbrev μ-loop : tie.MeasureT-loop
-μ-loop table₀ text₀ s softline c₀ n₀ between₀ at₀ table text c n between at = length s - at
+μ-loop table₀ text₀ s from softline c₀ n₀ between₀ at₀ table text c n between at = length s - at
 
 -- src/lib.rt:185:9
 skip-requires : tie.Need-skip-requires Inv-loop μ-loop
