@@ -84,10 +84,20 @@ pub fn publish(words: &[u32], marks: u32, out: &mut [Event])
 
 // The most records that a call may lend, and their words.
 const RECORDS: usize = 4096;
+
 const WORDS: usize = RECORDS * EVENT_WORDS;
 
 // Lays out with the events as words, of which there are enough for the most records; more records than that are answer 1.
-fn staged(table: &[u32], text: &[u8], width: u32, limit: u32, out: &mut [u8], slots: usize, words: &mut [u32], work: &mut [u32]) -> Report
+fn staged(
+    table: &[u32],
+    text: &[u8],
+    width: u32,
+    limit: u32,
+    out: &mut [u8],
+    slots: usize,
+    words: &mut [u32],
+    work: &mut [u32],
+) -> Report
     requires { ⌜ length (now words) ≡ most ⌝ }
     ensures { λ r. ⌜ Called (asked (now (table .entry)) (now (text .entry)) width limit (length (now (out .entry))) slots (length (now (work .entry)))) r (now (out .exit)) (published (now (words .exit)) (r .marks) slots) (now (work .exit)) ⌝ }
 {
@@ -107,7 +117,15 @@ fn staged(table: &[u32], text: &[u8], width: u32, limit: u32, out: &mut [u8], sl
 }
 
 // Lays a table out over lent buffers, the events as records.
-pub fn layout(table: &[u32], text: &[u8], width: u32, limit: u32, out: &mut [u8], events: &mut [Event], work: &mut [u32]) -> Report
+pub fn layout(
+    table: &[u32],
+    text: &[u8],
+    width: u32,
+    limit: u32,
+    out: &mut [u8],
+    events: &mut [Event],
+    work: &mut [u32],
+) -> Report
     ensures { λ r. ⌜ Called (asked (now (table .entry)) (now (text .entry)) width limit (length (now (out .entry))) (length (now (events .entry))) (length (now (work .entry)))) r (now (out .exit)) (now (events .exit)) (now (work .exit)) ⌝ }
 {
     let mut words = [0u32; WORDS];

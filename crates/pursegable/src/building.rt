@@ -1,6 +1,10 @@
 // The constructors, exported. The builder's counts are words that the caller lends: nodes in use, text bytes in use, and the node made.
-use build::{Counts, Made, Why};
-use table::{Column, Indent, NodeNo};
+use build::Counts;
+use build::Made;
+use build::Why;
+use table::Column;
+use table::Indent;
+use table::NodeNo;
 ghost use mathlib.Core.Path.{_≡_};
 ghost use Prim.Native.Nat.{_≤_};
 ghost use lib.ListN.{length, getD};
@@ -101,7 +105,15 @@ fn known(what: u32) -> bool
 
 // Any constructor but text, concat and intersperse. Its operands are a node's words as the table has them.
 #[no_mangle]
-pub extern "C" fn pursegable_make(what: u32, a: u32, b: u32, c: u32, table: &mut [u32], text: &mut [u8], counts: &mut [u32]) -> u32
+pub extern "C" fn pursegable_make(
+    what: u32,
+    a: u32,
+    b: u32,
+    c: u32,
+    table: &mut [u32],
+    text: &mut [u8],
+    counts: &mut [u32],
+) -> u32
     ensures { λ r. ⌜ left r (now (table .exit)) (now (text .exit)) (now (counts .exit)) ≡ makes what a b c (now (table .entry)) (now (text .entry)) (now (counts .entry)) ⌝ }
 {
     if counts.len() < COUNTS_WORDS {
@@ -121,7 +133,13 @@ pub extern "C" fn pursegable_make(what: u32, a: u32, b: u32, c: u32, table: &mut
 
 // A Text of these bytes, so many columns wide.
 #[no_mangle]
-pub extern "C" fn pursegable_text(bytes: &[u8], columns: u32, table: &mut [u32], text: &mut [u8], counts: &mut [u32]) -> u32
+pub extern "C" fn pursegable_text(
+    bytes: &[u8],
+    columns: u32,
+    table: &mut [u32],
+    text: &mut [u8],
+    counts: &mut [u32],
+) -> u32
     ensures { λ r. ⌜ left r (now (table .exit)) (now (text .exit)) (now (counts .exit)) ≡ built (λ c t x. textMade c t x (now (bytes .entry)) columns) (now (table .entry)) (now (text .entry)) (now (counts .entry)) ⌝ }
 {
     if counts.len() < COUNTS_WORDS {
@@ -133,7 +151,12 @@ pub extern "C" fn pursegable_text(bytes: &[u8], columns: u32, table: &mut [u32],
 
 // The nodes joined.
 #[no_mangle]
-pub extern "C" fn pursegable_concat(nodes: &[u32], table: &mut [u32], text: &[u8], counts: &mut [u32]) -> u32
+pub extern "C" fn pursegable_concat(
+    nodes: &[u32],
+    table: &mut [u32],
+    text: &[u8],
+    counts: &mut [u32],
+) -> u32
     ensures { λ r. ⌜ left r (now (table .exit)) (now (text .entry)) (now (counts .exit)) ≡ built (λ c t x. concatMade c t x (now (nodes .entry))) (now (table .entry)) (now (text .entry)) (now (counts .entry)) ⌝ }
 {
     if counts.len() < COUNTS_WORDS {
@@ -145,7 +168,13 @@ pub extern "C" fn pursegable_concat(nodes: &[u32], table: &mut [u32], text: &[u8
 
 // The nodes joined, with the separator between each two.
 #[no_mangle]
-pub extern "C" fn pursegable_intersperse(nodes: &[u32], separator: u32, table: &mut [u32], text: &[u8], counts: &mut [u32]) -> u32
+pub extern "C" fn pursegable_intersperse(
+    nodes: &[u32],
+    separator: u32,
+    table: &mut [u32],
+    text: &[u8],
+    counts: &mut [u32],
+) -> u32
     ensures { λ r. ⌜ left r (now (table .exit)) (now (text .entry)) (now (counts .exit)) ≡ built (λ c t x. intersperseMade c t x (now (nodes .entry)) separator) (now (table .entry)) (now (text .entry)) (now (counts .entry)) ⌝ }
 {
     if counts.len() < COUNTS_WORDS {

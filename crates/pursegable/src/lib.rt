@@ -49,7 +49,16 @@ fn tell(r: Report, report: &mut [u32])
 
 // Lays a table out at a width, with a step limit. The answer is returned, and is the report's first word.
 #[no_mangle]
-pub extern "C" fn pursegable_layout(table: &[u32], text: &[u8], width: u32, limit: u32, out: &mut [u8], events: &mut [Event], work: &mut [u32], report: &mut [u32]) -> u32
+pub extern "C" fn pursegable_layout(
+    table: &[u32],
+    text: &[u8],
+    width: u32,
+    limit: u32,
+    out: &mut [u8],
+    events: &mut [Event],
+    work: &mut [u32],
+    report: &mut [u32],
+) -> u32
     ensures { λ r. ⌜ Records (asked (now (table .entry)) (now (text .entry)) width limit (length (now (out .entry))) (length (now (events .entry))) (length (now (work .entry)))) r (now (out .exit)) (now (events .exit)) (now (work .exit)) (now (report .exit)) (length (now (report .entry))) ⌝ }
 {
     let words = report.len();
@@ -61,23 +70,64 @@ pub extern "C" fn pursegable_layout(table: &[u32], text: &[u8], width: u32, limi
 
 // The whole sheet, at the default width and step limit.
 #[no_mangle]
-pub extern "C" fn pursegable_sheet(table: &[u32], text: &[u8], out: &mut [u8], events: &mut [Event], work: &mut [u32], report: &mut [u32]) -> u32
+pub extern "C" fn pursegable_sheet(
+    table: &[u32],
+    text: &[u8],
+    out: &mut [u8],
+    events: &mut [Event],
+    work: &mut [u32],
+    report: &mut [u32],
+) -> u32
     ensures { λ r. ⌜ Records (asked (now (table .entry)) (now (text .entry)) defaultWidth defaultSteps (length (now (out .entry))) (length (now (events .entry))) (length (now (work .entry)))) r (now (out .exit)) (now (events .exit)) (now (work .exit)) (now (report .exit)) (length (now (report .entry))) ⌝ }
 {
-    pursegable_layout(table, text, sheet::DEFAULT_WIDTH, sheet::DEFAULT_STEPS, out, events, work, report)
+    pursegable_layout(
+        table,
+        text,
+        sheet::DEFAULT_WIDTH,
+        sheet::DEFAULT_STEPS,
+        out,
+        events,
+        work,
+        report,
+    )
 }
 
 // The row label, at the default width and step limit.
 #[no_mangle]
-pub extern "C" fn pursegable_label(table: &[u32], text: &[u8], out: &mut [u8], events: &mut [Event], work: &mut [u32], report: &mut [u32]) -> u32
+pub extern "C" fn pursegable_label(
+    table: &[u32],
+    text: &[u8],
+    out: &mut [u8],
+    events: &mut [Event],
+    work: &mut [u32],
+    report: &mut [u32],
+) -> u32
     ensures { λ r. ⌜ Records (asked (now (table .entry)) (now (text .entry)) defaultWidth defaultSteps (length (now (out .entry))) (length (now (events .entry))) (length (now (work .entry)))) r (now (out .exit)) (now (events .exit)) (now (work .exit)) (now (report .exit)) (length (now (report .entry))) ⌝ }
 {
-    pursegable_layout(table, text, sheet::DEFAULT_WIDTH, sheet::DEFAULT_STEPS, out, events, work, report)
+    pursegable_layout(
+        table,
+        text,
+        sheet::DEFAULT_WIDTH,
+        sheet::DEFAULT_STEPS,
+        out,
+        events,
+        work,
+        report,
+    )
 }
 
 // As pursegable_layout, with the events as words, three to a record: nothing is copied.
 #[no_mangle]
-pub extern "C" fn pursegable_layout_words(table: &[u32], text: &[u8], width: u32, limit: u32, out: &mut [u8], events: &mut [u32], work: &mut [u32], report: &mut [u32]) -> u32
+pub extern "C" fn pursegable_layout_words(
+    table: &[u32],
+    text: &[u8],
+    width: u32,
+    limit: u32,
+    out: &mut [u8],
+    events: &mut [u32],
+    work: &mut [u32],
+    report: &mut [u32],
+) -> u32
     ensures { λ r. ⌜ Words (length (now (events .entry))) (given (now (table .entry)) (now (text .entry)) width limit (length (now (out .entry))) (length (now (events .entry))) (length (now (work .entry)))) r (now (out .exit)) (now (events .exit)) (now (work .exit)) (now (report .exit)) (length (now (report .entry))) ⌝ }
 {
     let limit = limit_for(limit, report.len());

@@ -37,6 +37,12 @@ pub struct Shared {
     softline: NodeNo,
 }
 
+// The shared nodes, if there is room for them.
+enum Start {
+    Ready(Counts, Shared),
+    Full,
+}
+
 // The sheet, or the first line that doesn't fit and why.
 pub enum Built {
     Sheet(Counts, NodeNo),
@@ -264,7 +270,21 @@ fn beside(
     c.concat(table, text, &nodes)
 }
 
-// The remark filled below the row, and a Hardline.
+// The remark filled on lines of its own.
+fn lower(c: Counts, table: &mut [u32], text: &mut [u8], shared: Shared, remark: &[u8]) -> Made {
+    let hardline = shared.hardline;
+    let made = words(c, table, text, shared, remark, 0);
+    let Made::Node(c, filled) = made else {
+        return made;
+    };
+    let made = c.append(table, text, hardline, filled);
+    let Made::Node(c, lines) = made else {
+        return made;
+    };
+    c.nest(table, text, lines, Indent(BELOW), 0)
+}
+
+// The remark below the row, and a Hardline.
 fn below(
     c: Counts,
     table: &mut [u32],
@@ -273,20 +293,11 @@ fn below(
     fixed: NodeNo,
     remark: &[u8],
 ) -> Made {
-    let hardline = shared.hardline;
-    let made = words(c, table, text, shared, remark, 0);
-    let Made::Node(c, filled) = made else {
+    let made = lower(c, table, text, shared, remark);
+    let Made::Node(c, one) = made else {
         return made;
     };
-    let made = c.append(table, text, hardline, filled);
-    let Made::Node(c, lower) = made else {
-        return made;
-    };
-    let made = c.nest(table, text, lower, Indent(BELOW), 0);
-    let Made::Node(c, lower) = made else {
-        return made;
-    };
-    let nodes = [fixed.0, lower.0, hardline.0];
+    let nodes = [fixed.0, one.0, shared.hardline.0];
     c.concat(table, text, &nodes)
 }
 
@@ -420,26 +431,31 @@ fn add_lines(c: Counts, table: &mut [u32], text: &mut [u8], shared: Shared, inpu
     Built::Sheet(c, n)
 }
 
-// The sheet of an input without faults (a line at fault adds nothing), over an empty table and text. Line 0 doesn't fit if the nodes that all
-// rows share don't.
-pub fn build(input: &[u8], table: &mut [u32], text: &mut [u8]) -> Built {
+// The nodes that all rows share, over an empty table and text.
+fn share(table: &mut [u32], text: &mut [u8]) -> Start {
     let c = Counts { nodes: 0, bytes: 0 };
-    let made = c.nil(table, text);
-    let Made::Node(c, none) = made else {
-        return Built::Full(0, Why::Nodes);
+    let Made::Node(c, none) = c.nil(table, text) else {
+        return Start::Full;
     };
-    let made = c.hardline(table, text);
-    let Made::Node(c, hardline) = made else {
-        return Built::Full(0, Why::Nodes);
+    let Made::Node(c, hardline) = c.hardline(table, text) else {
+        return Start::Full;
     };
-    let made = c.softline(table, text);
-    let Made::Node(c, softline) = made else {
-        return Built::Full(0, Why::Nodes);
+    let Made::Node(c, softline) = c.softline(table, text) else {
+        return Start::Full;
     };
     let shared = Shared {
         none,
         hardline,
         softline,
+    };
+    Start::Ready(c, shared)
+}
+
+// The sheet of an input without faults; a line at fault adds nothing. Line 0 is the one that doesn't fit where not even the shared nodes do.
+pub fn build(input: &[u8], table: &mut [u32], text: &mut [u8]) -> Built {
+    let start = share(table, text);
+    let Start::Ready(c, shared) = start else {
+        return Built::Full(0, Why::Nodes);
     };
     add_lines(c, table, text, shared, input)
 }

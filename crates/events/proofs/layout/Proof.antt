@@ -69,9 +69,19 @@ use Rattle.events.proofs.layout.Code as code
 
 -- table, text, width, limit, out, events, work
 abbrev stayed : Stays (f.ended .signature .params) (f.ended .kept)
-stayed =
-    (stay-none-slice (0 ∷ []) tt (plain (λ _. u32)) yes, (stay-none-slice (1 ∷ []) tt (plain (λ _. u8)) yes, (stay-none (λ _. u32) yes, (stay-none (λ _. u32) yes,
-    (gave-slice (2 ∷ []) tt (plain (λ _. u8)), (gave-slice (3 ∷ []) tt (plain (λ _. T.the-row)), (gave-slice (4 ∷ []) tt (plain (λ _. u32)), tt)))))))
+stayed = (
+  stay-none-slice (0 ∷ []) tt (plain (λ _. u32)) yes,
+  (
+    stay-none-slice (1 ∷ []) tt (plain (λ _. u8)) yes,
+    (
+      stay-none (λ _. u32) yes,
+      (
+        stay-none (λ _. u32) yes,
+        (gave-slice (2 ∷ []) tt (plain (λ _. u8)), (gave-slice (3 ∷ []) tt (plain (λ _. T.the-row)), (gave-slice (4 ∷ []) tt (plain (λ _. u32)), tt))),
+      ),
+    ),
+  ),
+)
 
 -- the contracts that the proof cites
 module _ {M : Type 1} (𝓤 : URA M) (H : Heap 𝓤) (A : Atoms 𝓤) (mem : Memory → SProp 𝓤) (run : Routine → Fun 𝓤) where
@@ -167,9 +177,16 @@ module _ {M : Type 1} (𝓤 : URA M) (H : Heap 𝓤) (A : Atoms 𝓤) (W : Given
   as-staged l δ = (xt, (xx, (wi, (li, (xo, (m, (xw l δ zeros, (xk, tt))))))))
 
   abbrev to-staged : ℕ → ℕ → GName → Staged 𝓤 H A mem run .Ghost
-  to-staged l ν δ =
-      (((κ₀, (κ₁, (κ₂, (ν ∷ [], (κ₄, tt))))), (q₀, (q₁, (q₂, (fullShare, (q₄, tt))))), tt, as-staged l δ,
-      (st ∷ [], (sx ∷ [], (vint w32 wi ∷ [], (vint w32 li ∷ [], (so ∷ [], (vint w64 m ∷ [], (sw l ∷ [], (sk ∷ [], tt))))))))), tt)
+  to-staged l ν δ = (
+    (
+      (κ₀, (κ₁, (κ₂, (ν ∷ [], (κ₄, tt))))),
+      (q₀, (q₁, (q₂, (fullShare, (q₄, tt))))),
+      tt,
+      as-staged l δ,
+      (st ∷ [], (sx ∷ [], (vint w32 wi ∷ [], (vint w32 li ∷ [], (so ∷ [], (vint w64 m ∷ [], (sw l ∷ [], (sk ∷ [], tt)))))))),
+    ),
+    tt,
+  )
 
   goes-staged : (l ν : ℕ) (δ : GName) → ent 𝓤 (⋆ 𝓤 H A ((‵ (flft κ₀ q₀) ⊛ ‵ (flft κ₁ q₁) ⊛ ‵ (flft κ₂ q₂) ⊛ ‵ (flft (ν ∷ []) fullShare) ⊛ ‵ (flft κ₄ q₄) ⊛ ‵ ftrue) ∷ (‵ OwnT ⊛ ‵ OwnX)
       ∷ (‵ (MutSlice (named 2) κ₂ u8 .own xo (so ∷ [])) ⊛ ‵ (MutSlice (named 3) (ν ∷ []) u32 .own (xw l δ zeros) (sw l ∷ [])) ⊛ ‵ (MutSlice (named 4) κ₄ u32 .own xk (sk ∷ []))) ∷ [])) (Staged 𝓤 H A mem run .pre (to-staged l ν δ))
@@ -257,8 +274,19 @@ module _ {M : Type 1} (𝓤 : URA M) (H : Heap 𝓤) (A : Atoms 𝓤) (W : Given
 
   meets : Meets 𝓤 H A f.signature (WpFn 𝓤 H (𝓣 .C) (𝓣 .Λ) code.function) (f.spec 𝓤 H A mem run)
   meets =
-      walk-meets 𝓤 H A f.ended stayed W (goes-none-slice 𝓤 H A W 5 (0 ∷ []) tt (plain (λ _. u32)) yes, (goes-none-slice 𝓤 H A W 5 (1 ∷ []) tt (plain (λ _. u8)) yes, (goes-none 𝓤 H A W 5 (λ _. u32) yes (λ κs x f. refl), (goes-none 𝓤 H A W 5 (λ _. u32) yes (λ κs x f. refl),
-      (goes-gave-slice 𝓤 H A W 5 2 tt (plain (λ _. u8)), (goes-gave-slice 𝓤 H A W 5 3 tt (plain (λ _. T.the-row)), (goes-gave-slice 𝓤 H A W 5 4 tt (plain (λ _. u32)), tt))))))) (f.clauses 𝓤 H A mem run)
+      walk-meets 𝓤 H A f.ended stayed W (
+        goes-none-slice 𝓤 H A W 5 (0 ∷ []) tt (plain (λ _. u32)) yes,
+        (
+          goes-none-slice 𝓤 H A W 5 (1 ∷ []) tt (plain (λ _. u8)) yes,
+          (
+            goes-none 𝓤 H A W 5 (λ _. u32) yes (λ κs x f. refl),
+            (
+              goes-none 𝓤 H A W 5 (λ _. u32) yes (λ κs x f. refl),
+              (goes-gave-slice 𝓤 H A W 5 2 tt (plain (λ _. u8)), (goes-gave-slice 𝓤 H A W 5 3 tt (plain (λ _. T.the-row)), (goes-gave-slice 𝓤 H A W 5 4 tt (plain (λ _. u32)), tt))),
+            ),
+          ),
+        ),
+      ) (f.clauses 𝓤 H A mem run)
       (WpFn 𝓤 H (𝓣 .C) (𝓣 .Λ) code.function) (WpFn-mono 𝓤 H (W .laws) 𝓣 code.function) walks
 
 pub layout-spec : {M : Type 1} → stated.statement M

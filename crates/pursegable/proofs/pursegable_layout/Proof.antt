@@ -67,9 +67,19 @@ use Rattle.pursegable.proofs.pursegable_layout.Code as code
 
 -- table, text, width, limit, out, events, work, report
 abbrev stayed : Stays (f.ended .signature .params) (f.ended .kept)
-stayed =
-    (stay-none-slice (0 ∷ []) tt (plain (λ _. u32)) yes, (stay-none-slice (1 ∷ []) tt (plain (λ _. u8)) yes, (stay-none (λ _. u32) yes, (stay-none (λ _. u32) yes,
-    (gave-slice (2 ∷ []) tt (plain (λ _. u8)), (gave-slice (3 ∷ []) tt (plain (λ _. T.the-row)), (gave-slice (4 ∷ []) tt (plain (λ _. u32)), (gave-slice (5 ∷ []) tt (plain (λ _. u32)), tt))))))))
+stayed = (
+  stay-none-slice (0 ∷ []) tt (plain (λ _. u32)) yes,
+  (
+    stay-none-slice (1 ∷ []) tt (plain (λ _. u8)) yes,
+    (
+      stay-none (λ _. u32) yes,
+      (
+        stay-none (λ _. u32) yes,
+        (gave-slice (2 ∷ []) tt (plain (λ _. u8)), (gave-slice (3 ∷ []) tt (plain (λ _. T.the-row)), (gave-slice (4 ∷ []) tt (plain (λ _. u32)), (gave-slice (5 ∷ []) tt (plain (λ _. u32)), tt)))),
+      ),
+    ),
+  ),
+)
 
 -- the contracts that the proof cites
 module _ {M : Type 1} (𝓤 : URA M) (H : Heap 𝓤) (A : Atoms 𝓤) (mem : Memory → SProp 𝓤) (run : Routine → Fun 𝓤) where
@@ -168,9 +178,16 @@ module _ {M : Type 1} (𝓤 : URA M) (H : Heap 𝓤) (A : Atoms 𝓤) (W : Given
   as-layout l = (xt, (xx, (wi, (l, (xo, (xe, (xk, tt)))))))
 
   abbrev to-layout : ℕ → Layout 𝓤 H A mem run .Ghost
-  to-layout l =
-      (((κ₀, (κ₁, (κ₂, (κ₃, (κ₄, tt))))), (q₀, (q₁, (q₂, (q₃, (q₄, tt))))), tt, as-layout l,
-      (st ∷ [], (sx ∷ [], (vint w32 wi ∷ [], (vint w32 l ∷ [], (so ∷ [], (se ∷ [], (sk ∷ [], tt)))))))), tt)
+  to-layout l = (
+    (
+      (κ₀, (κ₁, (κ₂, (κ₃, (κ₄, tt))))),
+      (q₀, (q₁, (q₂, (q₃, (q₄, tt))))),
+      tt,
+      as-layout l,
+      (st ∷ [], (sx ∷ [], (vint w32 wi ∷ [], (vint w32 l ∷ [], (so ∷ [], (se ∷ [], (sk ∷ [], tt))))))),
+    ),
+    tt,
+  )
 
   goes-layout : (l : ℕ) → l < 2 ^ 32 → ent 𝓤 (⋆ 𝓤 H A ((‵ (flft κ₀ q₀) ⊛ ‵ (flft κ₁ q₁) ⊛ ‵ (flft κ₂ q₂) ⊛ ‵ (flft κ₃ q₃) ⊛ ‵ (flft κ₄ q₄) ⊛ ‵ ftrue) ∷ (‵ OwnT ⊛ ‵ OwnX)
       ∷ (‵ (MutSlice (named 2) κ₂ u8 .own xo (so ∷ [])) ⊛ ‵ (MutSlice (named 3) κ₃ T.the-row .own xe (se ∷ [])) ⊛ ‵ (MutSlice (named 4) κ₄ u32 .own xk (sk ∷ []))) ∷ [])) (Layout 𝓤 H A mem run .pre (to-layout l))
@@ -252,8 +269,19 @@ module _ {M : Type 1} (𝓤 : URA M) (H : Heap 𝓤) (A : Atoms 𝓤) (W : Given
 
   meets : Meets 𝓤 H A f.signature (WpFn 𝓤 H (𝓣 .C) (𝓣 .Λ) code.function) (f.spec 𝓤 H A mem run)
   meets =
-      walk-meets 𝓤 H A f.ended stayed W (goes-none-slice 𝓤 H A W 6 (0 ∷ []) tt (plain (λ _. u32)) yes, (goes-none-slice 𝓤 H A W 6 (1 ∷ []) tt (plain (λ _. u8)) yes, (goes-none 𝓤 H A W 6 (λ _. u32) yes (λ κs x f. refl), (goes-none 𝓤 H A W 6 (λ _. u32) yes (λ κs x f. refl),
-      (goes-gave-slice 𝓤 H A W 6 2 tt (plain (λ _. u8)), (goes-gave-slice 𝓤 H A W 6 3 tt (plain (λ _. T.the-row)), (goes-gave-slice 𝓤 H A W 6 4 tt (plain (λ _. u32)), (goes-gave-slice 𝓤 H A W 6 5 tt (plain (λ _. u32)), tt)))))))) (f.clauses 𝓤 H A mem run)
+      walk-meets 𝓤 H A f.ended stayed W (
+        goes-none-slice 𝓤 H A W 6 (0 ∷ []) tt (plain (λ _. u32)) yes,
+        (
+          goes-none-slice 𝓤 H A W 6 (1 ∷ []) tt (plain (λ _. u8)) yes,
+          (
+            goes-none 𝓤 H A W 6 (λ _. u32) yes (λ κs x f. refl),
+            (
+              goes-none 𝓤 H A W 6 (λ _. u32) yes (λ κs x f. refl),
+              (goes-gave-slice 𝓤 H A W 6 2 tt (plain (λ _. u8)), (goes-gave-slice 𝓤 H A W 6 3 tt (plain (λ _. T.the-row)), (goes-gave-slice 𝓤 H A W 6 4 tt (plain (λ _. u32)), (goes-gave-slice 𝓤 H A W 6 5 tt (plain (λ _. u32)), tt)))),
+            ),
+          ),
+        ),
+      ) (f.clauses 𝓤 H A mem run)
       (WpFn 𝓤 H (𝓣 .C) (𝓣 .Λ) code.function) (WpFn-mono 𝓤 H (W .laws) 𝓣 code.function) walks
 
 pub pursegable-layout-spec : {M : Type 1} → stated.statement M
