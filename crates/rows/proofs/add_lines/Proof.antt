@@ -36,7 +36,7 @@ part-added-start c = search needs
 
 -- src/lib.rt:352:53
 part-added-end : tie.Need-part-added-end Inv-loop μ-loop
-part-added-end c = let L = c .before .before .before .before .loop in omega (arith, part-within (c .before .before .before .before .before .before .args .input .now) (L .at) 10 (omega arith), c .before .before .part-end .ensures)
+part-added-end c = let L = c .before .before .before .before .loop in omega (arith, part-within (c .before .before .before .before .before .before .before .before .before .args .input .now) (L .at) 10 (omega arith), c .before .before .part-end .ensures)
 
 -- src/lib.rt:352:13
 added-requires : tie.Need-added-requires Inv-loop μ-loop

@@ -20,7 +20,7 @@ body-end-requires c κs = search needs
 
 -- src/lib.rt:337:45
 slice-aggregate-part : tie.Need-slice-aggregate-part
-slice-aggregate-part c = sym (length-take-le _ _ (omega (arith, body-within (c .before .before .before .before .before .args .line .now), c .before .before .before .body-end .ensures)))
+slice-aggregate-part c = sym (length-take-le _ _ (omega (arith, body-within (c .before .before .before .before .before .before .before .args .line .now), c .before .before .before .body-end .ensures)))
 
 -- src/lib.rt:337:9
 part-requires : tie.Need-part-requires
