@@ -6,15 +6,14 @@
 --     body-within, part-within      ends lie within
 --     check-line, rest-none, none-left   one line of an input; none
 -- Assumes nothing.
-use Prim.Native.Nat.{ℕ, zero, suc, _+_, _-_, _≤_, _<_}
+use Prim.Native.Nat.{ℕ, suc, _+_, _-_, _≤_, _<_}
 use native.Mathlib.Omega.{arith}
-use native.Mathlib.Numerals.{add-one}
-use mathlib.Core.Path.{_≡_, refl, sym, ap, _∙_}
+use mathlib.Core.Path.{_≡_, refl, ap, _∙_}
 use mathlib.Core.Bool.{Bool, true, false, _&&_, _||_}
 use mathlib.Core.List.{List, [], _∷_}
 use lib.ListN.{length, getD, take, drop, length-drop}
 use lib.Seq.{take-all}
-use lib.Dec.{eqb, leb, ltb}
+use lib.Dec.{eqb, ltb}
 use borrow.Author.Tests.{le-leb, lt-leb, ne-eqb}
 use Rattle.table.specs.Pick.{pick}
 use Rattle.pallets.specs.Numbers.{numberOf, tenthsAdd, tenthsOf}
@@ -24,7 +23,6 @@ use Rattle.pallets.specs.declared.Amount.the-variants.{NoNumber}
 use Rattle.pallets.specs.declared.Fault.the-variants.{NoForce, NoPluck, NoRemark, Note}
 use Rattle.pallets.specs.declared.Cuts.the-variants.{At, Missing}
 use Rattle.pallets.specs.declared.Line.the-variants.{Bad}
-use Rattle.pallets.specs.declared.Checked.{Checked}
 use Rattle.pallets.specs.declared.Checked.the-variants.{AllSound}
 use Rattle.pallets.proofs.Reading.{done, line-first}
 

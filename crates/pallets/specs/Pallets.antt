@@ -1,6 +1,6 @@
 -- What a line says, `note;force;pluck point;remark`, and which line of an input is at fault first.
 use Prim.Native.Nat.{ℕ, _+_, _-_, _<_}
-use mathlib.Core.Bool.{Bool, not, _&&_}
+use mathlib.Core.Bool.{_&&_}
 use mathlib.Core.List.{List, [], _∷_}
 use lib.ListN.{length, getD, take, drop}
 use lib.Dec.{eqb, leb, ltb}
@@ -10,7 +10,6 @@ use Rattle.pallets.specs.Lines.{indexOf, bodyEnd, characters, controls}
 use Rattle.pallets.specs.Numbers.{numberOf, tenthsOf}
 use Rattle.pallets.specs.declared.Amount.{Amount}
 use Rattle.pallets.specs.declared.Amount.the-variants.{Is, NoNumber}
-use Rattle.pallets.specs.declared.Fault.{Fault}
 use Rattle.pallets.specs.declared.Fault.the-variants.{TooLong, NotUtf8, Control, NoForce, NoPluck, NoRemark, Note, Force, Pluck}
 use Rattle.pallets.specs.declared.Cuts.{Cuts}
 use Rattle.pallets.specs.declared.Cuts.the-variants.{At, Missing}

@@ -1,8 +1,6 @@
 // From a chest's test results to the printed strip, or a message that names the line and what is wrong. Nothing is printed of a sheet
 // that can't be printed whole.
 // In order: messages; printing; the whole run.
-ghost use Prim.Native.Nat.{_≤_};
-ghost use lib.ListN.{length};
 use build::Why;
 use pallets::Checked;
 use pallets::Fault;

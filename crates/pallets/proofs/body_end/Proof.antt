@@ -1,15 +1,11 @@
+-- `pallets::body_end` meets its contract: by the last byte. Assumes nothing.
 use borrow.Author.Needs.{needs}
 use native.Mathlib.Omega.{arith}
-use mathlib.Core.Path.{_≡_, refl, sym, ap, _∙_}
-use mathlib.Core.List.{List, [], _∷_}
-use Prim.Native.Nat.{ℕ, _+_, _-_, _*_, _^_, _≤_, _<_}
-use lib.ListN.{length, getD, take, drop}
+use lib.ListN.{length}
 use borrow.Author.Tests.{lt-ltb, le-ltb, eq-eqb, ne-eqb}
 use Rattle.pallets.specs.Lines.{bodyEnd}
 use Rattle.pallets.proofs.body_end.Statement.{statement}
 use Rattle.pallets.proofs.body_end.Tie as tie
-use Rattle.pallets.proofs.body_end.Reads as reads
-use Rattle.pallets.proofs.body_end.Lts as lts
 
 returns : tie.Need-returns
 unfolding bodyEnd

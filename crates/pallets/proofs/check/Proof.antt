@@ -1,19 +1,15 @@
+-- `pallets::check` meets its contract: the first fault among the lines that are left is the first of all, so far as none was before. Assumes nothing.
 use borrow.Author.Needs.{needs}
 use native.Mathlib.Omega.{arith}
-use mathlib.Core.Path.{_≡_, refl, sym, ap, _∙_, subst}
-use mathlib.Core.List.{List, [], _∷_, _++_, map}
-use Prim.Native.Nat.{ℕ, zero, suc, _+_, _-_, _*_, _≤_, _<_, _^_}
-use lib.ListN.{length, getD, take, drop, set, replicate, length-set}
+use mathlib.Core.Path.{_≡_, refl, sym, ap, _∙_}
+use Prim.Native.Nat.{_+_, _-_, _≤_}
+use lib.ListN.{length, drop}
 use Rattle.pallets.specs.Lines.{lines}
 use Rattle.pallets.specs.declared.Verdict.{Verdict}
 use Rattle.pallets.specs.Pallets.{firstOf, checked}
 use Rattle.pallets.proofs.Saying.{part-within, check-line, rest-none}
 use Rattle.pallets.proofs.check.Statement.{statement}
 use Rattle.pallets.proofs.check.Tie as tie
-use Rattle.pallets.proofs.check.Reads as reads
-use Rattle.pallets.proofs.check.Lts as lts
-use Rattle.pallets.proofs.part_end.Reads as part-end-reads
-use Rattle.pallets.proofs.told.Reads as told-reads
 
 abbrev Inv-loop : tie.InvT-loop
 Inv-loop input before₀ at₀ before at = (before ≤ at) × (at ≤ length input) × (checked before (lines (drop at input)) ≡ checked 0 (lines input))

@@ -1,15 +1,13 @@
+-- `pallets::columns` meets its contract: characters counted so far and those that are left are all of them. Assumes nothing.
 use borrow.Author.Needs.{needs}
 use native.Mathlib.Omega.{arith}
-use mathlib.Core.Path.{_≡_, refl, sym, ap, _∙_}
-use mathlib.Core.List.{List, [], _∷_}
-use Prim.Native.Nat.{ℕ, _+_, _-_, _*_, _^_, _≤_, _<_}
-use lib.ListN.{length, getD, take, drop}
+use mathlib.Core.Path.{_≡_}
+use Prim.Native.Nat.{_+_, _-_, _≤_}
+use lib.ListN.{length, drop}
 use Rattle.pallets.specs.Lines.{characters}
 use Rattle.pallets.proofs.Reading.{low-counts, high-counts, rest-counts, no-characters}
 use Rattle.pallets.proofs.columns.Statement.{statement}
 use Rattle.pallets.proofs.columns.Tie as tie
-use Rattle.pallets.proofs.columns.Reads as reads
-use Rattle.pallets.proofs.columns.Lts as lts
 
 abbrev Inv-loop : tie.InvT-loop
 Inv-loop s count₀ i₀ count i = (i ≤ length s) × (count ≤ i) × (count + characters (drop i s) ≡ characters s)

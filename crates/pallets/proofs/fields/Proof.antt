@@ -1,15 +1,9 @@
+-- `pallets::fields` meets its contract: each separator is the first behind the one before. Assumes nothing.
 use borrow.Author.Needs.{needs}
 use native.Mathlib.Omega.{arith}
-use mathlib.Core.Path.{_≡_, refl, sym, ap, _∙_, subst}
-use mathlib.Core.List.{List, [], _∷_, _++_, map}
-use Prim.Native.Nat.{ℕ, zero, suc, _+_, _-_, _*_, _≤_, _<_, _^_}
-use lib.ListN.{length, getD, take, drop, set, replicate, length-set}
 use Rattle.pallets.proofs.Saying.{no-force, no-pluck, no-remark, fields-are}
 use Rattle.pallets.proofs.fields.Statement.{statement}
 use Rattle.pallets.proofs.fields.Tie as tie
-use Rattle.pallets.proofs.fields.Reads as reads
-use Rattle.pallets.proofs.fields.Lts as lts
-use Rattle.pallets.proofs.part_end.Reads as part-end-reads
 
 part-end-requires : tie.Need-part-end-requires
 part-end-requires c κs = search needs

@@ -1,15 +1,13 @@
+-- `pallets::has_controls` meets its contract: whether a control character is left is whether there is one. Assumes nothing.
 use borrow.Author.Needs.{needs}
 use native.Mathlib.Omega.{arith}
-use mathlib.Core.Path.{_≡_, refl, sym, ap, _∙_}
-use mathlib.Core.List.{List, [], _∷_}
-use Prim.Native.Nat.{ℕ, _+_, _-_, _*_, _^_, _≤_, _<_}
-use lib.ListN.{length, getD, take, drop}
+use mathlib.Core.Path.{_≡_, refl, sym, _∙_}
+use Prim.Native.Nat.{_-_, _≤_}
+use lib.ListN.{length, drop}
 use Rattle.pallets.specs.Lines.{controls}
 use Rattle.pallets.proofs.Reading.{control-low, control-last, control-none, no-controls}
 use Rattle.pallets.proofs.has_controls.Statement.{statement}
 use Rattle.pallets.proofs.has_controls.Tie as tie
-use Rattle.pallets.proofs.has_controls.Reads as reads
-use Rattle.pallets.proofs.has_controls.Lts as lts
 
 abbrev Inv-loop : tie.InvT-loop
 Inv-loop s i₀ i = (i ≤ length s) × (controls (drop i s) ≡ controls s)

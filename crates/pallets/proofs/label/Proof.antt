@@ -1,14 +1,7 @@
-use borrow.Author.Needs.{needs}
-use native.Mathlib.Omega.{arith}
-use mathlib.Core.Path.{_≡_, refl, sym, ap, _∙_}
-use mathlib.Core.List.{List, [], _∷_}
-use Prim.Native.Nat.{ℕ, _+_, _-_, _*_, _^_, _≤_, _<_}
-use lib.ListN.{length, getD, take, drop}
+-- `pallets::label` meets its contract: by the two tests. Assumes nothing.
 use Rattle.pallets.specs.Tolerance.{labelOf}
 use Rattle.pallets.proofs.label.Statement.{statement}
 use Rattle.pallets.proofs.label.Tie as tie
-use Rattle.pallets.proofs.label.Reads as reads
-use Rattle.pallets.proofs.label.Lts as lts
 
 returns : tie.Need-returns
 unfolding labelOf

@@ -1,16 +1,14 @@
+-- `pallets::marked` meets its contract: the marks open after what is left of the events are those after all of them. Assumes nothing.
 use borrow.Author.Needs.{needs}
 use native.Mathlib.Omega.{arith}
 use mathlib.Core.Path.{_≡_, refl, sym, ap, _∙_}
-use mathlib.Core.List.{List, [], _∷_}
-use Prim.Native.Nat.{ℕ, _+_, _-_, _*_, _^_, _≤_, _<_}
-use lib.ListN.{length, getD, take, drop}
+use Prim.Native.Nat.{ℕ, _+_, _-_, _≤_}
+use lib.ListN.{length, drop}
 use Rattle.pallets.specs.Marks.{openAt, markedAt}
 use Rattle.pallets.proofs.Reading.{past, opens, closes, no-mark}
 use lib.Dec.{ltb}
 use Rattle.pallets.proofs.marked.Statement.{statement}
 use Rattle.pallets.proofs.marked.Tie as tie
-use Rattle.pallets.proofs.marked.Reads as reads
-use Rattle.pallets.proofs.marked.Lts as lts
 
 abbrev Inv-loop : tie.InvT-loop
 Inv-loop events at open₀ i₀ «open» i = (i ≤ length events) × («open» ≤ i) × (openAt «open» (drop i events) at ≡ openAt 0 events at)

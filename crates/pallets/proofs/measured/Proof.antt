@@ -1,14 +1,8 @@
+-- `pallets::measured` meets its contract: by the two numbers. Assumes nothing.
 use borrow.Author.Needs.{needs}
-use native.Mathlib.Omega.{arith}
-use mathlib.Core.Path.{_≡_, refl, sym, ap, _∙_, subst}
-use mathlib.Core.List.{List, [], _∷_, _++_, map}
-use Prim.Native.Nat.{ℕ, zero, suc, _+_, _-_, _*_, _≤_, _<_, _^_}
-use lib.ListN.{length, getD, take, drop, set, replicate, length-set}
 use Rattle.pallets.specs.Pallets.{measured}
 use Rattle.pallets.proofs.measured.Statement.{statement}
 use Rattle.pallets.proofs.measured.Tie as tie
-use Rattle.pallets.proofs.measured.Reads as reads
-use Rattle.pallets.proofs.measured.Lts as lts
 
 enum-told : tie.Need-enum-told
 enum-told c = search needs

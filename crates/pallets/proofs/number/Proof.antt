@@ -1,15 +1,13 @@
+-- `pallets::number` meets its contract: the number of the digits that are left, from here, is the number from the start. Assumes nothing.
 use borrow.Author.Needs.{needs}
 use native.Mathlib.Omega.{arith}
-use mathlib.Core.Path.{_≡_, refl, sym, ap, _∙_}
-use mathlib.Core.List.{List, [], _∷_}
-use Prim.Native.Nat.{ℕ, _+_, _-_, _*_, _^_, _≤_, _<_}
-use lib.ListN.{length, getD, take, drop}
-use Rattle.pallets.specs.Numbers.{digits, numberOf}
+use mathlib.Core.Path.{_≡_, refl, sym, _∙_}
+use Prim.Native.Nat.{_-_, _^_, _≤_, _<_}
+use lib.ListN.{length, getD, drop}
+use Rattle.pallets.specs.Numbers.{digits}
 use Rattle.pallets.proofs.Reading.{digit-next, digit-low, digit-high, number-is, number-empty, number-long, digits-end, ten-more, ten-small}
 use Rattle.pallets.proofs.number.Statement.{statement}
 use Rattle.pallets.proofs.number.Tie as tie
-use Rattle.pallets.proofs.number.Reads as reads
-use Rattle.pallets.proofs.number.Lts as lts
 
 abbrev Inv-loop : tie.InvT-loop
 Inv-loop s value₀ i₀ value i = (i ≤ length s) × (value < 10 ^ i) × (digits value (drop i s) ≡ digits 0 s)

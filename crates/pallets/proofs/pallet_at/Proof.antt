@@ -1,21 +1,13 @@
+-- `pallets::pallet_at` meets its contract: by the note's columns, then force and pluck point. Assumes nothing.
 use borrow.Author.Needs.{needs}
 use native.Mathlib.Omega.{arith}
-use mathlib.Core.Path.{_≡_, refl, sym, ap, _∙_, subst}
-use mathlib.Core.List.{List, [], _∷_, _++_, map}
-use Prim.Native.Nat.{ℕ, zero, suc, _+_, _-_, _*_, _≤_, _<_, _^_}
-use lib.ListN.{length, getD, take, drop, set, replicate, length-set}
+use mathlib.Core.Path.{sym, _∙_}
 use mathlib.Core.Path.{ap₂}
 use lib.Seq.{length-take-le}
 use Rattle.pallets.specs.Pallets.{measured}
 use Rattle.pallets.proofs.Saying.{no-note, long-note, pallet-is}
 use Rattle.pallets.proofs.pallet_at.Statement.{statement}
 use Rattle.pallets.proofs.pallet_at.Tie as tie
-use Rattle.pallets.proofs.pallet_at.Reads as reads
-use Rattle.pallets.proofs.pallet_at.Lts as lts
-use Rattle.pallets.proofs.columns.Reads as columns-reads
-use Rattle.pallets.proofs.measured.Reads as measured-reads
-use Rattle.pallets.proofs.number.Reads as number-reads
-use Rattle.pallets.proofs.tenths.Reads as tenths-reads
 
 slice-aggregate-columns : tie.Need-slice-aggregate-columns
 slice-aggregate-columns c = sym (length-take-le _ _ (omega arith))

@@ -1,18 +1,10 @@
+-- `pallets::parse` meets its contract: by length, UTF-8 and control characters. Assumes nothing.
 use borrow.Author.Needs.{needs}
-use native.Mathlib.Omega.{arith}
-use mathlib.Core.Path.{_≡_, refl, sym, ap, _∙_, subst}
-use mathlib.Core.List.{List, [], _∷_, _++_, map}
-use Prim.Native.Nat.{ℕ, zero, suc, _+_, _-_, _*_, _≤_, _<_, _^_}
-use lib.ListN.{length, getD, take, drop, set, replicate, length-set}
+use mathlib.Core.Path.{sym, _∙_}
 use borrow.Author.Tests.{lt-ltb, le-ltb, not-true, not-false}
 use Rattle.pallets.specs.Pallets.{parsed}
 use Rattle.pallets.proofs.parse.Statement.{statement}
 use Rattle.pallets.proofs.parse.Tie as tie
-use Rattle.pallets.proofs.parse.Reads as reads
-use Rattle.pallets.proofs.parse.Lts as lts
-use Rattle.pallets.proofs.has_controls.Reads as has-controls-reads
-use Rattle.pallets.proofs.said.Reads as said-reads
-use Rattle.table.proofs.utf8.well_formed.Reads as well-formed-reads
 
 returns : tie.Need-returns
 unfolding parsed

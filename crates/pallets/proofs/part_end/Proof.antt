@@ -1,15 +1,13 @@
+-- `pallets::part_end` meets its contract: the first of the byte from here on is the first from the start. Assumes nothing.
 use borrow.Author.Needs.{needs}
 use native.Mathlib.Omega.{arith}
-use mathlib.Core.Path.{_≡_, refl, sym, ap, _∙_}
-use mathlib.Core.List.{List, [], _∷_}
-use Prim.Native.Nat.{ℕ, _+_, _-_, _*_, _^_, _≤_, _<_}
-use lib.ListN.{length, getD, take, drop}
+use mathlib.Core.Path.{_≡_, refl}
+use Prim.Native.Nat.{_+_, _-_, _≤_}
+use lib.ListN.{length, drop}
 use Rattle.pallets.specs.Lines.{indexOf}
 use Rattle.pallets.proofs.Reading.{part-here, part-next, no-part}
 use Rattle.pallets.proofs.part_end.Statement.{statement}
 use Rattle.pallets.proofs.part_end.Tie as tie
-use Rattle.pallets.proofs.part_end.Reads as reads
-use Rattle.pallets.proofs.part_end.Lts as lts
 
 abbrev Inv-loop : tie.InvT-loop
 Inv-loop s from b i₀ i = (from ≤ i) × (i + indexOf b (drop i s) ≡ from + indexOf b (drop from s))

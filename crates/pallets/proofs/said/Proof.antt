@@ -1,19 +1,13 @@
+-- `pallets::said` meets its contract: by the first byte and the separators. Assumes nothing.
 use borrow.Author.Needs.{needs}
-use native.Mathlib.Omega.{arith}
-use mathlib.Core.Path.{_≡_, refl, sym, ap, _∙_, subst}
-use mathlib.Core.List.{List, [], _∷_, _++_, map}
-use Prim.Native.Nat.{ℕ, zero, suc, _+_, _-_, _*_, _≤_, _<_, _^_}
-use lib.ListN.{length, getD, take, drop, set, replicate, length-set}
+use mathlib.Core.Path.{sym, ap, _∙_, subst}
+use lib.ListN.{length}
 use borrow.Author.Tests.{eq-eqb, ne-eqb}
 use Rattle.pallets.specs.declared.Cuts.{Cuts}
 use Rattle.pallets.specs.Pallets.{palletAt, said, Ordered}
 use Rattle.pallets.proofs.Saying.{said-is}
 use Rattle.pallets.proofs.said.Statement.{statement}
 use Rattle.pallets.proofs.said.Tie as tie
-use Rattle.pallets.proofs.said.Reads as reads
-use Rattle.pallets.proofs.said.Lts as lts
-use Rattle.pallets.proofs.fields.Reads as fields-reads
-use Rattle.pallets.proofs.pallet_at.Reads as pallet-at-reads
 
 returns : tie.Need-returns
 unfolding said

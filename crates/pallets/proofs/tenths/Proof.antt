@@ -1,9 +1,7 @@
+-- `pallets::tenths` meets its contract: by length and point. Assumes nothing.
 use borrow.Author.Needs.{needs}
 use native.Mathlib.Omega.{arith}
-use mathlib.Core.Path.{_≡_, refl, sym, ap, _∙_, subst}
-use mathlib.Core.List.{List, [], _∷_, _++_, map}
-use Prim.Native.Nat.{ℕ, zero, suc, _+_, _-_, _*_, _≤_, _<_, _^_}
-use lib.ListN.{length, getD, take, drop, set, replicate, length-set}
+use mathlib.Core.Path.{sym, _∙_, subst}
 use mathlib.Core.Path.{ap₂}
 use lib.Seq.{length-take-le}
 use borrow.Author.Tests.{not-true, not-false}
@@ -12,11 +10,6 @@ use Rattle.pallets.proofs.Reading.{number-small}
 use Rattle.pallets.proofs.Saying.{tenths-short, tenths-long, tenths-no-point, tenths-are}
 use Rattle.pallets.proofs.tenths.Statement.{statement}
 use Rattle.pallets.proofs.tenths.Tie as tie
-use Rattle.pallets.proofs.tenths.Reads as reads
-use Rattle.pallets.proofs.tenths.Lts as lts
-use Rattle.pallets.proofs.is_point.Reads as is-point-reads
-use Rattle.pallets.proofs.number.Reads as number-reads
-use Rattle.pallets.proofs.tenths_add.Reads as tenths-add-reads
 
 returns : tie.Need-returns
 returns c = tenths-short (c .before .before .args .s .now) (c .if1 .taken)

@@ -1,14 +1,10 @@
+-- `pallets::tenths_add` meets its contract: by the two numbers, which are small. Assumes nothing.
 use borrow.Author.Needs.{needs}
 use native.Mathlib.Omega.{arith}
-use mathlib.Core.Path.{_≡_, refl, sym, ap, _∙_, subst}
-use mathlib.Core.List.{List, [], _∷_, _++_, map}
-use Prim.Native.Nat.{ℕ, zero, suc, _+_, _-_, _*_, _≤_, _<_, _^_}
-use lib.ListN.{length, getD, take, drop, set, replicate, length-set}
+use mathlib.Core.Path.{subst}
 use Rattle.pallets.specs.Numbers.{tenthsAdd, Small}
 use Rattle.pallets.proofs.tenths_add.Statement.{statement}
 use Rattle.pallets.proofs.tenths_add.Tie as tie
-use Rattle.pallets.proofs.tenths_add.Reads as reads
-use Rattle.pallets.proofs.tenths_add.Lts as lts
 
 enum-told : tie.Need-enum-told
 enum-told c = search needs

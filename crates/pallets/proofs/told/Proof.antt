@@ -1,18 +1,14 @@
+-- `pallets::told` meets its contract: by what the line says. Assumes nothing.
 use borrow.Author.Needs.{needs}
 use native.Mathlib.Omega.{arith}
-use mathlib.Core.Path.{_≡_, refl, sym, ap, _∙_, subst}
-use mathlib.Core.List.{List, [], _∷_, _++_, map}
-use Prim.Native.Nat.{ℕ, zero, suc, _+_, _-_, _*_, _≤_, _<_, _^_}
-use lib.ListN.{length, getD, take, drop, set, replicate, length-set}
+use mathlib.Core.Path.{sym, ap, _∙_}
+use Prim.Native.Nat.{ℕ}
+use lib.ListN.{take}
 use lib.Seq.{length-take-le}
 use Rattle.pallets.specs.Pallets.{parsed, verdictOf}
 use Rattle.pallets.proofs.Saying.{body-within}
 use Rattle.pallets.proofs.told.Statement.{statement}
 use Rattle.pallets.proofs.told.Tie as tie
-use Rattle.pallets.proofs.told.Reads as reads
-use Rattle.pallets.proofs.told.Lts as lts
-use Rattle.pallets.proofs.body_end.Reads as body-end-reads
-use Rattle.pallets.proofs.parse.Reads as parse-reads
 
 body-end-requires : tie.Need-body-end-requires
 body-end-requires c κs = search needs

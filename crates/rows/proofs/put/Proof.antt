@@ -1,13 +1,11 @@
+-- `rows::put` meets its contract. Assumes nothing.
 use borrow.Author.Needs.{needs}
 use native.Mathlib.Omega.{arith}
-use mathlib.Core.Path.{_≡_, refl, sym, ap, _∙_, subst}
-use mathlib.Core.List.{List, [], _∷_, _++_, map}
-use Prim.Native.Nat.{ℕ, zero, suc, _+_, _-_, _*_, _≤_, _<_, _^_}
-use lib.ListN.{length, getD, take, drop, set, replicate, length-set}
+use mathlib.Core.Path.{_≡_}
+use Prim.Native.Nat.{_-_, _≤_}
+use lib.ListN.{length, length-set}
 use Rattle.rows.proofs.put.Statement.{statement}
 use Rattle.rows.proofs.put.Tie as tie
-use Rattle.rows.proofs.put.Reads as reads
-use Rattle.rows.proofs.put.Lts as lts
 
 abbrev Inv-loop : tie.InvT-loop
 Inv-loop out₀ at src from end n₀ i₀ out n i = (n ≤ length out) × (length out ≡ length out₀)
@@ -15,59 +13,45 @@ Inv-loop out₀ at src from end n₀ i₀ out n i = (n ≤ length out) × (lengt
 abbrev μ-loop : tie.MeasureT-loop
 μ-loop out₀ at src from end n₀ i₀ out n i = end - i
 
--- src/lib.rt:61:9
 returns : tie.Need-returns Inv-loop μ-loop
 returns c = search needs
 
--- src/lib.rt:65:5
 loop-holds : tie.Need-loop-holds Inv-loop μ-loop
 loop-holds c = search needs
 
--- src/lib.rt:67:13
 same-length : tie.Need-same-length Inv-loop μ-loop
 same-length c = search needs
 
--- src/lib.rt:67:13
 returns-2 : tie.Need-returns-2 Inv-loop μ-loop
 returns-2 c = search needs
 
--- src/lib.rt:70:13
 same-length-2 : tie.Need-same-length-2 Inv-loop μ-loop
 same-length-2 c = search needs
 
--- src/lib.rt:70:13
 returns-3 : tie.Need-returns-3 Inv-loop μ-loop
 returns-3 c = search needs
 
--- src/lib.rt:72:18
 shared-slice-read-out : tie.Need-shared-slice-read-out Inv-loop μ-loop
 shared-slice-read-out c = search needs
 
--- src/lib.rt:72:9
 slice-write-out : tie.Need-slice-write-out Inv-loop μ-loop
 slice-write-out c = search needs
 
--- src/lib.rt:73:9
 add-n : tie.Need-add-n Inv-loop μ-loop
 add-n c = search needs
 
--- src/lib.rt:74:9
 add-i : tie.Need-add-i Inv-loop μ-loop
 add-i c = search needs
 
--- src/lib.rt:65:5
 loop-less : tie.Need-loop-less Inv-loop μ-loop
 loop-less c = search needs
 
--- src/lib.rt:65:5
 loop-again : tie.Need-loop-again Inv-loop μ-loop
 loop-again c = (simp length-set (omega arith), simp length-set (omega arith))
 
--- src/lib.rt:57:1
 same-length-3 : tie.Need-same-length-3 Inv-loop μ-loop
 same-length-3 c = search needs
 
--- src/lib.rt:57:1
 returns-4 : tie.Need-returns-4 Inv-loop μ-loop
 returns-4 c = search needs
 
