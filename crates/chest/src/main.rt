@@ -7,6 +7,10 @@ use libc::STDOUT_FILENO;
 fn main() {
     let mut space = io::large_buffer();
     let n = io::read_full(STDIN_FILENO, &mut space);
+    if n == 0 {
+        io::write_all(STDERR_FILENO, b"there is no input\n");
+        return;
+    }
     if n == 65536 {
         io::write_all(STDERR_FILENO, b"the input is longer than 65,535 bytes\n");
         return;
