@@ -3,6 +3,7 @@
 pub mod calls;
 pub mod known;
 pub mod loads;
+pub mod made;
 pub mod make;
 pub mod model;
 pub mod programs;

@@ -1,5 +1,6 @@
 //! Programs of constructor calls at random. An operand is the number of an earlier call, whose node or document it names.
 
+use crate::made::Lent;
 use crate::make::{Affix, Make};
 use crate::tables::Random;
 
@@ -93,6 +94,35 @@ pub fn wild_make(random: &mut Random, nodes: usize) -> Make {
         }
         other => other,
     }
+}
+
+/// Buffers of these lengths, full of words and bytes that could be a table's; no node and no byte is in use.
+pub fn soiled_lent(random: &mut Random, words: usize, bytes: usize) -> Lent {
+    let some: Vec<u32> = (0..67).map(|_| random.below(12) as u32).collect();
+    let beyond = random.one_in(2);
+    let letters: Vec<u8> =
+        (0..23).map(|_| if beyond && random.one_in(9) { 0xe9 } else { b'A' + random.below(26) as u8 }).collect();
+    let table = some.iter().copied().cycle().take(words).collect();
+    let text = letters.iter().copied().cycle().take(bytes).collect();
+    Lent { table, text, counts: vec![0; 3] }
+}
+
+/// Buffers of any lengths, with any counts: often near the limits of 1,024 nodes and 65,536 bytes, or past what is lent.
+pub fn wild_lent(random: &mut Random) -> Lent {
+    let words = if random.one_in(8) { 4080 + random.below(40) } else { random.below(200) };
+    let bytes = if random.one_in(16) { 65_530 + random.below(16) } else { random.below(60) };
+    let mut lent = soiled_lent(random, words, bytes);
+    let nodes = (words / 4).saturating_sub(random.below(30));
+    lent.counts[0] = nodes as u32;
+    lent.counts[1] = bytes.saturating_sub(random.below(60)) as u32;
+    if random.one_in(12) {
+        let at = random.below(2);
+        lent.counts[at] = *random.of(&[0, 1, (words / 4) as u32 + 1, bytes as u32 + 1, 1024, 65_536, 1 << 30, u32::MAX]);
+    }
+    if random.one_in(12) {
+        lent.counts.resize(random.below(6), 7);
+    }
+    lent
 }
 
 /// The same call with each operand replaced.

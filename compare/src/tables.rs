@@ -3,7 +3,7 @@
 use crate::model::{kind::*, shape};
 
 /// A sequence of numbers that a seed fixes (SplitMix64).
-#[derive(Clone)]
+#[derive(Clone, Default)]
 pub struct Random(pub u64);
 
 impl Random {
