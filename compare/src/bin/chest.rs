@@ -46,7 +46,7 @@ mod sheet {
         beside.union(fixed.append(below).append(arena.hardline()))
     }
 
-    /// The words filled by softlines; they stay together up to 8 columns, and no piece has more than 38.
+    /// The words filled by softlines; they stay together up to 12 columns, and no piece has more than 38.
     fn words<'a>(arena: &'a Arena<'a, u32>, text: &str) -> Built<'a> {
         let mut pieces: Vec<String> = Vec::new();
         let mut piece = String::new();
@@ -55,7 +55,7 @@ mod sheet {
             if wide == 0 && character == ' ' {
                 continue;
             }
-            if wide == 38 || (wide >= 8 && character == ' ') {
+            if wide == 38 || (wide >= 12 && character == ' ') {
                 pieces.push(std::mem::take(&mut piece));
                 if character == ' ' {
                     continue;

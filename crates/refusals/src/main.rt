@@ -3,7 +3,7 @@
 use libc::STDIN_FILENO;
 use libc::STDOUT_FILENO;
 
-// Runs every input, and counts them.
+// Runs every input.
 fn run_all(input: &[u8]) {
     let mut at = 0;
     while at < input.len() {

@@ -21,7 +21,7 @@ const BELOW: u32 = 4;
 const WRAPPED: usize = 38;
 
 // Words stay together up to so many columns: a place to break costs three nodes.
-const TOGETHER: usize = 8;
+const TOGETHER: usize = 12;
 
 // The columns of a row's fields: the note from the left, force and pluck point to the right.
 const NOTE: usize = 6;
