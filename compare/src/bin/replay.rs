@@ -84,6 +84,20 @@ fn at_the_limits() -> Vec<(String, Call)> {
     add("1,023 wait", &|call| {
         call.table.words = (0..1024).flat_map(|n| if n == 0 { [6, 0, 1, 1] } else { [1, n - 1, 0, 0] }).collect();
     });
+    // The first part walks down 1,021 Appends whose second parts wait over the root's second part; the Group at the bottom tests
+    // all of that, down the same 1,021 Appends again.
+    add("stacks of 1,022 and 1,021", &|call| {
+        let inner = (2..1023).flat_map(|n| [1, n - 1, 0, 0]);
+        call.table.words = [0, 0, 0, 0, 2, 0, 0, 0].into_iter().chain(inner).chain([1, 1022, 1022, 0]).collect();
+    });
+    // A mark in a trial in a trial in a mark: the inner trial is given up, the outer one stands.
+    add("trials in trials, marks in trials", &|call| {
+        call.table.text = b"longs".to_vec();
+        let (long, s, five) = ([6, 0, 4, 4], [6, 4, 1, 1], [7, 0, 5, 0]);
+        let rest = [[7, 1, 6, 0], [8, 2, 3, 0], [7, 4, 7, 0], [8, 5, 0, 0], [7, 6, 8, 0]];
+        call.table.words = [long, s, five].into_iter().chain(rest).flatten().collect();
+        call.width = 3;
+    });
     all
 }
 
