@@ -14,3 +14,4 @@ mod Hangs
 mod Concats
 mod Separated
 mod Indents
+pub mod Clean

@@ -4,3 +4,5 @@ pub mod Parts
 pub mod Solid
 pub mod Outcome
 pub mod Constructors
+pub mod Documents
+pub mod Promise
