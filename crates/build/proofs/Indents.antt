@@ -43,7 +43,7 @@ unfolding ascii
 blanks-ascii zero = refl
 blanks-ascii (suc n) = blanks-ascii n
 
-blanks-right : (n : ℕ) → columnsRight (replicate n 32) n ≡ true
+pub blanks-right : (n : ℕ) → columnsRight (replicate n 32) n ≡ true
 unfolding columnsRight
 blanks-right n = rw (blanks-ascii n, length-replicate {A = ℕ} n 32) (eq-eqb n n refl)
 

@@ -38,7 +38,7 @@ unfolding hasAll
 below-of c [] e = tt
 below-of c (n ∷ ns) e = let p = and-true (has c n) (hasAll c ns) e in (ltb-true n (c .nodes) (p .0), below-of c ns (p .1))
 
-below-more : {N M : ℕ} (ns : List ℕ) → N ≤ M → Below N ns → Below M ns
+pub below-more : {N M : ℕ} (ns : List ℕ) → N ≤ M → Below N ns → Below M ns
 below-more [] h b = tt
 below-more (n ∷ ns) h b = (omega (arith, b .0), below-more ns h (b .1))
 

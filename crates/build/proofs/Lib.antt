@@ -15,3 +15,7 @@ mod Concats
 mod Separated
 mod Indents
 pub mod Clean
+mod Says
+pub mod Means
+pub mod Compose
+pub mod Promises

@@ -76,9 +76,19 @@ pub neither : (p q : Bool) → p || q ≡ false → (p ≡ false) × (q ≡ fals
 neither true q e = absurd (true≢false e)
 neither false q e = (refl, e)
 
-pub allowed : (c d : Counts) (words bytes : ℕ) (present amount text : Bool) → c .nodes ≤ d .nodes → c .bytes ≤ d .bytes → asked c words bytes present amount text (d .nodes) (d .bytes) ≡ Granted → Allowed c d words bytes present amount text
+-- every test was passed
+pub record Passed (c : Counts) (words bytes : ℕ) (present amount text : Bool) (nodes used : ℕ) : Type 0 where
+  pub counted-nodes : c .nodes ≤ words / 4
+  pub counted-bytes : c .bytes ≤ bytes
+  pub operands : present ≡ true
+  pub amounts : amount ≡ true
+  pub texts : text ≡ true
+  pub bytes-fit : fits (c .bytes) used 65536 bytes ≡ true
+  pub nodes-fit : fits (c .nodes) nodes 1024 (words / 4) ≡ true
+
+pub passed : (c : Counts) (words bytes : ℕ) (present amount text : Bool) (nodes used : ℕ) → asked c words bytes present amount text nodes used ≡ Granted → Passed c words bytes present amount text nodes used
 unfolding asked
-allowed c d words bytes present amount text gn gb e =
+passed c words bytes present amount text nodes used e =
     let a = goes-on _ _ _ e in
     let b = goes-on _ _ _ (a .1) in
     let p = goes-on _ _ _ (b .1) in
@@ -92,8 +102,17 @@ allowed c d words bytes present amount text gn gb e =
       operands = not-false _ (b .0);
       amounts = not-false _ (p .0);
       texts = not-false _ (q .0);
-      room = record { nodes = fits-of _ _ _ _ gn (not-false _ (s .0)); used = fits-of _ _ _ _ gb (not-false _ (r .0)) };
+      bytes-fit = not-false _ (r .0);
+      nodes-fit = not-false _ (s .0);
     }
+
+pub room-of : {c : Counts} {words bytes : ℕ} {present amount text : Bool} (d : Counts) → c .nodes ≤ d .nodes → c .bytes ≤ d .bytes → Passed c words bytes present amount text (d .nodes) (d .bytes) → Room words bytes c d
+room-of d gn gb p = record { nodes = fits-of _ _ _ _ gn (p .nodes-fit); used = fits-of _ _ _ _ gb (p .bytes-fit) }
+
+pub allowed : (c d : Counts) (words bytes : ℕ) (present amount text : Bool) → c .nodes ≤ d .nodes → c .bytes ≤ d .bytes → asked c words bytes present amount text (d .nodes) (d .bytes) ≡ Granted → Allowed c d words bytes present amount text
+allowed c d words bytes present amount text gn gb e =
+    let p = passed c words bytes present amount text (d .nodes) (d .bytes) e in
+    record { counted-nodes = p .counted-nodes; counted-bytes = p .counted-bytes; operands = p .operands; amounts = p .amounts; texts = p .texts; room = room-of d gn gb p }
 
 pub granted : {c d : Counts} {words bytes : ℕ} {present amount text : Bool} → Allowed c d words bytes present amount text → asked c words bytes present amount text (d .nodes) (d .bytes) ≡ Granted
 unfolding asked

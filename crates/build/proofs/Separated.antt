@@ -71,7 +71,7 @@ solid-bound table n ns k = by (eqb (word table n 0) 0) (solid-few table ns)
     by true h = omega arith
     by false h = omega arith
 
-below-separated : {N : ℕ} (n : ℕ) (ns : List ℕ) → n < N → Below N ns → Below N (separated n ns)
+pub below-separated : {N : ℕ} (n : ℕ) (ns : List ℕ) → n < N → Below N ns → Below N (separated n ns)
 unfolding separated
 below-separated n [] h b = tt
 below-separated n (m ∷ ns) h b = (h, (b .0, below-separated n ns h (b .1)))
