@@ -19,3 +19,4 @@ mod Says
 pub mod Means
 pub mod Compose
 pub mod Promises
+pub mod Lent
