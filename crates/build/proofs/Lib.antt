@@ -1,6 +1,6 @@
 -- The laws of the constructors, with no code in sight.
 pub mod Grow
-mod Lists
+mod Runs
 mod Room
 mod Stand
 mod Leaf

@@ -3,7 +3,7 @@ use borrow.Author.Needs.{needs}
 use Prim.Native.Nat.{ℕ, _+_, _-_, _*_, _≤_, _<_}
 use native.Mathlib.Omega.{arith}
 use lib.ListN.{length-set}
-use Rattle.build.proofs.Lists.{words-put}
+use Rattle.build.proofs.Runs.{words-put}
 use Rattle.build.proofs.put.Statement.{statement}
 use Rattle.build.proofs.put.Tie as tie
 

@@ -9,7 +9,7 @@ use lib.ListN.{length, drop}
 use lib.Dec.{ltb}
 use borrow.Author.Tests.{lt-ltb, le-ltb}
 use Rattle.build.specs.Constructors.{has, hasAll}
-use Rattle.build.proofs.Lists.{all-next, all-not, all-end}
+use Rattle.build.proofs.Runs.{all-next, all-not, all-end}
 use Rattle.build.proofs.Counts.has_all.Statement.{statement}
 use Rattle.build.proofs.Counts.has_all.Tie as tie
 

@@ -5,7 +5,7 @@ use native.Mathlib.Omega.{arith}
 use mathlib.Core.Path.{_≡_, refl, sym, ap, _∙_}
 use lib.ListN.{length, getD, take, drop}
 use Rattle.build.specs.Solid.{solid}
-use Rattle.build.proofs.Lists.{count-next, count-skip, count-end}
+use Rattle.build.proofs.Runs.{count-next, count-skip, count-end}
 use Rattle.build.proofs.Counts.solid.Statement.{statement}
 use Rattle.build.proofs.Counts.solid.Tie as tie
 

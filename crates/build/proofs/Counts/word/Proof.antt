@@ -5,7 +5,7 @@ use native.Mathlib.Omega.{arith}
 use mathlib.Core.Path.{_≡_, refl, sym, ap, _∙_}
 use lib.ListN.{length, getD, take}
 use lib.Seq.{getD-take}
-use Rattle.build.proofs.Lists.{word-out, word-past}
+use Rattle.build.proofs.Runs.{word-out, word-past}
 use Rattle.build.proofs.Counts.word.Statement.{statement}
 use Rattle.build.proofs.Counts.word.Tie as tie
 
