@@ -1,21 +1,22 @@
--- The laws of the constructors, with no code in sight.
+-- The laws of the constructors, with no code in sight: what grows, what has room, each constructor part by part, and what is promised.
 pub mod Grow
+pub mod Room
+pub mod Stand
 mod Runs
-mod Room
-mod Stand
-mod Leaf
-mod Choices
-mod Lines
-mod Texts
 mod Words
-mod Joins
+mod Choices
+mod Leaf
+mod Texts
+mod Lines
 mod Softlines
 mod Hangs
+mod Indents
+pub mod Joins
 mod Concats
 mod Separated
-mod Indents
+pub mod Only
 pub mod Clean
-mod Says
+pub mod Says
 pub mod Means
 pub mod Compose
 pub mod Promises

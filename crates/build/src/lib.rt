@@ -158,14 +158,15 @@ impl Counts {
         table[at]
     }
 
-    fn is_nil(self, table: &[u32], n: NodeNo) -> bool
+    // By the kind word alone.
+    pub fn is_nil(self, table: &[u32], n: NodeNo) -> bool
         ensures { λ r. ⌜ r ≡ eqb (word (take (self .nodes * 4) (now (table .entry))) (n .0) 0) 0 ⌝ }
     {
         self.word(table, n, 0) == 0
     }
 
     // Whether n is a present node.
-    fn has(self, n: NodeNo) -> bool
+    pub fn has(self, n: NodeNo) -> bool
         ensures { λ r. ⌜ r ≡ has self (n .0) ⌝ }
     {
         n.0 < self.nodes

@@ -15,7 +15,7 @@ use crate::less_one;
 use table::NodeNo;
 
 impl Counts {
-    fn has_all(self, ns: &[u32]) -> bool
+    pub fn has_all(self, ns: &[u32]) -> bool
         ensures { λ r. ⌜ r ≡ hasAll self (now (ns .entry)) ⌝ }
     {
         let mut i = 0;

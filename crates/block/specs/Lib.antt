@@ -1,0 +1,3 @@
+-- The definitions of the block layouts.
+pub mod Block
+pub mod Run
