@@ -81,7 +81,7 @@ module _ {s : Sheet} (c : Clean s) where
   line₀-makes = either-makes parts.nil nil (λ t k. nil-makes k)
 
 -- a group around what was made
-grouped-makes : {s : Sheet} {b : Built} {d : Doc} → Makes s b d → Makes s (parts.group (b .sheet) (b .node)) (groupDoc d)
+pub grouped-makes : {s : Sheet} {b : Built} {d : Doc} → Makes s b d → Makes s (parts.group (b .sheet) (b .node)) (groupDoc d)
 grouped-makes m = after m (meaning (ap groupDoc (m .unfolds)) (group-makes (m .clean) _ (m .present)))
 
 module _ {s : Sheet} (c : Clean s) where
@@ -118,7 +118,7 @@ indent-makes c n by h p =
 -- ---- lists
 
 -- documents of older nodes
-docs-still : {s : Sheet} {b : Built} {d : Doc} → Clean s → Makes s b d → (ns : List ℕ) → Below (s .counts .nodes) ns → map (docOf (b .sheet)) ns ≡ map (docOf s) ns
+pub docs-still : {s : Sheet} {b : Built} {d : Doc} → Clean s → Makes s b d → (ns : List ℕ) → Below (s .counts .nodes) ns → map (docOf (b .sheet)) ns ≡ map (docOf s) ns
 docs-still c m [] b = refl
 docs-still c m (n ∷ ns) b = ap₂ (λ (x : Doc) (xs : List Doc). x ∷ xs) (still c m n (b .0)) (docs-still c m ns (b .1))
 

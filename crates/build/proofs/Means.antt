@@ -46,7 +46,7 @@ after m m′ = record { grown = then (m .grown) (m′ .grown); clean = m′ .cle
 pub meaning : {s : Sheet} {b : Built} {d d′ : Doc} → d ≡ d′ → Makes s b d → Makes s b d′
 meaning e m = record { grown = m .grown; clean = m .clean; present = m .present; unfolds = m .unfolds ∙ e }
 
-older-makes : {s : Sheet} → Clean s → (n : ℕ) → n < s .counts .nodes → Makes s (older s n) (docOf s n)
+pub older-makes : {s : Sheet} → Clean s → (n : ℕ) → n < s .counts .nodes → Makes s (older s n) (docOf s n)
 older-makes {s} c n h = record { grown = same s; clean = c; present = h; unfolds = refl }
 
 -- ---- one node

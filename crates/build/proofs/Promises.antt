@@ -43,7 +43,7 @@ module _ (c : Counts) (table text : List ℕ) where
   abbrev s₀ : Sheet
   s₀ = counted c table text
 
-  promise : (present amount right : Bool) (f : Sheet → Built) (d : Doc) → (Clean s₀ → present ≡ true → amount ≡ true → right ≡ true → Makes s₀ (f s₀) d) → Promise c table text (made c table text present amount right f) d
+  pub promise : (present amount right : Bool) (f : Sheet → Built) (d : Doc) → (Clean s₀ → present ≡ true → amount ≡ true → right ≡ true → Makes s₀ (f s₀) d) → Promise c table text (made c table text present amount right f) d
   unfolding counted made
   promise present amount right f d makes c′ n e v =
       let b = f s₀ in

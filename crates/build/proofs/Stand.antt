@@ -113,16 +113,12 @@ module _ (c : Counts) (table text : List ℕ) (present amount right : Bool) (f :
         over-past true e = rw e refl
         over-past false e = over-operand present refl e
 
--- one part more
-pub part : {table₀ text₀ : List ℕ} {s : Sheet} {c : Counts} {table text : List ℕ} → Stands table₀ text₀ s c table text → (f : Sheet → Built) → Grown s (f s .sheet) → Room (length table₀) (length text₀) (s .counts) (f s .sheet .counts)
-    → (present amount right : Bool) → present ≡ true → amount ≡ true → right ≡ true → {m : Made} {table′ text′ : List ℕ} → outcome m table′ text′ ≡ made c table text present amount right f → Went table₀ text₀ (f s) m table′ text′
+-- what was built over a sheet that stands, stands
+pub went-added : {table₀ text₀ : List ℕ} {s : Sheet} {c : Counts} {table text : List ℕ} → Stands table₀ text₀ s c table text → (b : Built) → Grown s (b .sheet) → Room (length table₀) (length text₀) (s .counts) (b .sheet .counts)
+    → {m : Made} {table′ text′ : List ℕ} → outcome m table′ text′ ≡ added b table text → Went table₀ text₀ b m table′ text′
 unfolding added
-part {table₀} {text₀} {s} {c} {table} {text} h f g r present amount right p a t {m} {table′} {text′} e =
-    let b = f s in
+went-added {table₀} {text₀} {s} h b g r d =
     let n : s .counts .nodes ≤ length table₀ / 4 = let i = h .nodes-inside in omega arith in
-    let ok : Allowed c (b .sheet .counts) (length table) (length text) present amount right =
-    rw (same-words h, same-bytes h, h .counts) (record { counted-nodes = n; counted-bytes = h .bytes-inside; operands = p; amounts = a; texts = t; room = r }) in
-    let d : outcome m table′ text′ ≡ added b table text = e ∙ made-granted c table text present amount right f b (ap f (stands-counted h)) (granted ok) in
     let w = whole-grown (h .whole) g in
     record {
       answer = ap (λ (o : Outcome). o .made) d;
@@ -136,6 +132,16 @@ part {table₀} {text₀} {s} {c} {table} {text} h f g r present amount right p 
             bytes-inside = fits-inside (r .used) (h .bytes-inside);
           };
     }
+
+-- one part more
+pub part : {table₀ text₀ : List ℕ} {s : Sheet} {c : Counts} {table text : List ℕ} → Stands table₀ text₀ s c table text → (f : Sheet → Built) → Grown s (f s .sheet) → Room (length table₀) (length text₀) (s .counts) (f s .sheet .counts)
+    → (present amount right : Bool) → present ≡ true → amount ≡ true → right ≡ true → {m : Made} {table′ text′ : List ℕ} → outcome m table′ text′ ≡ made c table text present amount right f → Went table₀ text₀ (f s) m table′ text′
+part {table₀} {text₀} {s} {c} {table} {text} h f g r present amount right p a t e =
+    let b = f s in
+    let n : s .counts .nodes ≤ length table₀ / 4 = let i = h .nodes-inside in omega arith in
+    let ok : Allowed c (b .sheet .counts) (length table) (length text) present amount right =
+    rw (same-words h, same-bytes h, h .counts) (record { counted-nodes = n; counted-bytes = h .bytes-inside; operands = p; amounts = a; texts = t; room = r }) in
+    went-added h b g r (e ∙ made-granted c table text present amount right f b (ap f (stands-counted h)) (granted ok))
 
 -- its answer taken apart
 pub taken : {table₀ text₀ : List ℕ} {b : Built} {m : Made} {table text : List ℕ} → Went table₀ text₀ b m table text → {c : Counts} {n : NodeNo} → m ≡ Node c n → Stands table₀ text₀ (b .sheet) c table text × (n .0 ≡ b .node)

@@ -1,0 +1,3 @@
+-- The laws of the block layouts, with no code in sight.
+mod Chain
+mod Layers
