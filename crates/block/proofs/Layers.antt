@@ -21,7 +21,7 @@ use Rattle.build.proofs.Joins.{Below, below-more}
 use Rattle.build.proofs.Only.{Adds, adds-then, older-adds, pick-adds, nil-adds, fail-adds, flatAlt-adds, union-adds, append-adds, group-adds, nest-adds, concat-adds}
 use Rattle.block.specs.declared.Block.{Block}
 use Rattle.block.specs.declared.Shared.{Shared}
-use Rattle.block.specs.Block.{list, allNil, guarded, nested, head, core, wrap, wraps, tail, alternative, unions, layouts}
+use Rattle.block.specs.Block.{list, bare, guarded, nested, head, core, wrap, wraps, tail, alternative, unions, layouts}
 
 -- ---- present nodes
 
@@ -135,7 +135,7 @@ module _ (b : Block) (sh : Shared) (prefixes suffixes : List ℕ) (nests : List 
     front = head s sh (take split prefixes)
 
     abbrev middle : Built
-    middle = core (front .sheet) b sh (ltb 1 split && allNil (front .sheet) (take split prefixes)) (drop split suffixes)
+    middle = core (front .sheet) b sh (bare (front .sheet) (take split prefixes)) (drop split suffixes)
 
     abbrev wrapped : Built
     wrapped = wraps (middle .sheet) b (middle .node) (drop split prefixes) (drop split nests)
@@ -149,7 +149,7 @@ module _ (b : Block) (sh : Shared) (prefixes suffixes : List ℕ) (nests : List 
     pub middle-adds : Adds (front .sheet) middle
     middle-adds =
         let p = on-still front-adds o in
-        core-adds (front .sheet) b sh (ltb 1 split && allNil (front .sheet) (take split prefixes)) (drop split suffixes) (p .body) (p .none) (p .guard) (below-drop split suffixes (p .behind))
+        core-adds (front .sheet) b sh (bare (front .sheet) (take split prefixes)) (drop split suffixes) (p .body) (p .none) (p .guard) (below-drop split suffixes (p .behind))
 
     pub wrapped-adds : Adds (middle .sheet) wrapped
     wrapped-adds =

@@ -24,6 +24,10 @@ unfoldable pub allNil : Sheet → List ℕ → Bool
 allNil s [] = true
 allNil s (n ∷ ns) = isNil s n && allNil s ns
 
+-- more than one before, and every prefix a Nil node
+unfoldable pub bare : Sheet → List ℕ → Bool
+bare s before = ltb 1 (length before) && allNil s before
+
 -- a node, joined to the guard if asked
 unfoldable pub guarded : Sheet → Shared → ℕ → Bool → Built
 guarded s sh n asked = pick asked (append s n (sh .guard .0)) (older s n)
@@ -74,7 +78,7 @@ unfoldable pub alternative : Sheet → Block → Shared → List ℕ → List �
 alternative s b sh prefixes suffixes nests split =
     let before = take split prefixes in
     let front = head s sh before in
-    let middle = core (front .sheet) b sh (ltb 1 split && allNil (front .sheet) before) (drop split suffixes) in
+    let middle = core (front .sheet) b sh (bare (front .sheet) before) (drop split suffixes) in
     let wrapped = wraps (middle .sheet) b (middle .node) (drop split prefixes) (drop split nests) in
     let back = tail (wrapped .sheet) sh (wrapped .node) (take split suffixes) in
     append (back .sheet) (front .node) (back .node)

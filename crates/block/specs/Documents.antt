@@ -12,6 +12,10 @@ unfoldable pub allNilDoc : List Doc → Bool
 allNilDoc [] = true
 allNilDoc (d ∷ rest) = isNilDoc d && allNilDoc rest
 
+-- more than one before, and every prefix a Nil
+unfoldable pub bareDoc : List Doc → Bool
+bareDoc before = ltb 1 (length before) && allNilDoc before
+
 -- FlatAlt of a Fail and a Nil: broken it gives the alternative up, flat it is nothing
 abbrev pub guardDoc : Doc
 guardDoc = flatAlt fail nil
@@ -47,7 +51,7 @@ module _ (amount way : ℕ) where
     unfoldable pub alternativeDoc : ℕ → Doc
     alternativeDoc split =
         let before = take split prefixes in
-        let inner = coreDoc body (ltb 1 split && allNilDoc before) (drop split suffixes) in
+        let inner = coreDoc body (bareDoc before) (drop split suffixes) in
         appendDoc (headDoc before) (tailDoc (wrapsDoc inner (drop split prefixes) (drop split nests)) (take split suffixes))
 
     -- unions lean left: what stands, then one affix fewer before

@@ -1,10 +1,11 @@
 // The block layouts, over what the constructors promise. Each part is asked of them in document 01's order.
 ghost use mathlib.Core.Path.{_≡_};
+ghost use mathlib.Core.Bool.{true};
 ghost use Prim.Native.Nat.{_<_, _≤_};
 ghost use lib.ListN.{length};
 ghost use Rattle.build.specs.Sheet.{counted};
 ghost use Rattle.build.specs.Constructors.{hasAll};
-ghost use Rattle.block.specs.Block.{list, allNil, guarded, nested, head, core, wrap, wraps, tail};
+ghost use Rattle.block.specs.Block.{list, allNil, bare, guarded, nested, head, core, wrap, wraps, tail, alternative};
 ghost use Rattle.block.specs.Run.{Ready, Shares, Bodied, Ran};
 use build::Counts;
 use build::Made;
@@ -47,6 +48,13 @@ fn all_nil(c: Counts, table: &[u32], text: &[u8], nodes: &[u32]) -> bool
         i += 1;
     }
     true
+}
+
+// Whether there is more than one before, and every prefix is a Nil.
+fn bare(c: Counts, table: &[u32], text: &[u8], before: &[u32]) -> bool
+    ensures { λ r. ⌜ r ≡ bare (counted c (now (table .entry)) (now (text .entry))) (now (before .entry)) ⌝ }
+{
+    1 < before.len() && all_nil(c, table, text, before)
 }
 
 // A node, joined to the guard if asked.
@@ -163,4 +171,29 @@ fn tail(c: Counts, table: &mut [u32], text: &[u8], shared: Shared, n: NodeNo, be
         return second;
     };
     c.group(table, text, n)
+}
+
+// Head joined to Tail, where "before" is the first `split` affixes.
+fn alternative(c: Counts, table: &mut [u32], text: &[u8], block: Block, shared: Shared, prefixes: &[u32], suffixes: &[u32], nests: &[bool], split: usize) -> Made
+    requires { ⌜ Ready c (now table) (now text) × Bodied c block × Shares c shared × (hasAll c (now prefixes) ≡ true) × (hasAll c (now suffixes) ≡ true) × (split ≤ length (now prefixes)) × (length (now suffixes) ≡ length (now prefixes)) × (length (now nests) ≡ length (now prefixes)) ⌝ }
+    ensures { λ r. ⌜ Ran c (now (table .entry)) (now (text .entry)) (alternative (counted c (now (table .entry)) (now (text .entry))) block shared (now (prefixes .entry)) (now (suffixes .entry)) (now (nests .entry)) split) r (now (table .exit)) ⌝ }
+{
+    let first = head(c, table, text, shared, &prefixes[..split]);
+    let Made::Node(c, front) = first else {
+        return first;
+    };
+    let asked = bare(c, table, text, &prefixes[..split]);
+    let second = core(c, table, text, block, shared, asked, &suffixes[split..]);
+    let Made::Node(c, middle) = second else {
+        return second;
+    };
+    let third = wraps(c, table, text, block, middle, &prefixes[split..], &nests[split..]);
+    let Made::Node(c, wrapped) = third else {
+        return third;
+    };
+    let fourth = tail(c, table, text, shared, wrapped, &suffixes[..split]);
+    let Made::Node(c, back) = fourth else {
+        return fourth;
+    };
+    c.append(table, text, front, back)
 }
