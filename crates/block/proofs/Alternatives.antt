@@ -50,29 +50,29 @@ module _ (b : Block) (sh : Shared) (prefixes suffixes : List ℕ) (nests : List 
   behind-makes : {t : Sheet} → Clean t → Stand t sh → b .body .0 < t .counts .nodes → Below (t .counts .nodes) prefixes → Below (t .counts .nodes) suffixes → (split : ℕ) (q : Bool)
       → Makes t (rest-of t split q) (tailDoc (wrapsDoc (b .amount .0) (b .way) (coreDoc (b .amount .0) (b .way) (docOf t (b .body .0)) q (map (docOf t) (drop split suffixes))) (map (docOf t) (drop split prefixes)) (drop split nests)) (map (docOf t) (take split suffixes)))
   behind-makes {t} c h l k j split q =
-      let middle = core-makes c sh h b p w q (drop split suffixes) l (below-drop split suffixes j) in
+      let middle = core-makes c sh h b p w q (drop split suffixes) l (below-drop _ split suffixes j) in
       let others = drop split prefixes in
-      let wraps-is = ap₂ (λ (d : Doc) (ds : List Doc). wrapsDoc (b .amount .0) (b .way) d ds (drop split nests)) (middle .unfolds) (docs-still c middle others (below-drop split prefixes k)) in
-      let wrapped = after middle (meaning wraps-is (wraps-makes b p w (middle .clean) _ others (drop split nests) (middle .present) (below-still middle others (below-drop split prefixes k)))) in
+      let wraps-is = ap₂ (λ (d : Doc) (ds : List Doc). wrapsDoc (b .amount .0) (b .way) d ds (drop split nests)) (middle .unfolds) (docs-still c middle others (below-drop _ split prefixes k)) in
+      let wrapped = after middle (meaning wraps-is (wraps-makes b p w (middle .clean) _ others (drop split nests) (middle .present) (below-still middle others (below-drop _ split prefixes k)))) in
       let firsts = take split suffixes in
-      let tail-is = ap₂ tailDoc (wrapped .unfolds) (docs-still c wrapped firsts (below-take split suffixes j)) in
-      after wrapped (meaning tail-is (tail-makes (wrapped .clean) sh (stand-still c wrapped h) _ firsts (wrapped .present) (below-still wrapped firsts (below-take split suffixes j))))
+      let tail-is = ap₂ tailDoc (wrapped .unfolds) (docs-still c wrapped firsts (below-take _ split suffixes j)) in
+      after wrapped (meaning tail-is (tail-makes (wrapped .clean) sh (stand-still c wrapped h) _ firsts (wrapped .present) (below-still wrapped firsts (below-take _ split suffixes j))))
 
   alternative-makes : {s : Sheet} → Clean s → Stand s sh → b .body .0 < s .counts .nodes → Below (s .counts .nodes) prefixes → Below (s .counts .nodes) suffixes → (split : ℕ) → Makes s (alternative s b sh prefixes suffixes nests split) (there-doc s split)
   unfolding alternative alternativeDoc
   alternative-makes {s} c h l k j split =
       let before = take split prefixes in
-      let front = head-makes c sh h before (below-take split prefixes k) in
+      let front = head-makes c sh h before (below-take _ split prefixes k) in
       let q = bare (head s sh before .sheet) before in
       let rest = behind-makes (front .clean) (stand-still c front h) (there front l) (below-still front prefixes k) (below-still front suffixes j) split q in
       let join = append-makes (rest .clean) _ _ (there rest (front .present)) (rest .present) in
       let docs : (ns : List ℕ) → Below (s .counts .nodes) ns → map (docOf (head s sh before .sheet)) ns ≡ map (docOf s) ns = λ ns x. docs-still c front ns x in
       let head-is = still (front .clean) rest _ (front .present) ∙ front .unfolds ∙ ap headDoc (map-take s split prefixes) in
-      let nils = bare-is (front .clean) before (below-still front before (below-take split prefixes k)) ∙ ap bareDoc (docs before (below-take split prefixes k) ∙ map-take s split prefixes) in
+      let nils = bare-is (front .clean) before (below-still front before (below-take _ split prefixes k)) ∙ ap bareDoc (docs before (below-take _ split prefixes k) ∙ map-take s split prefixes) in
       let body-is = still c front (b .body .0) l in
-      let behind = docs (drop split suffixes) (below-drop split suffixes j) ∙ map-drop s split suffixes in
-      let others = docs (drop split prefixes) (below-drop split prefixes k) ∙ map-drop s split prefixes in
-      let firsts = docs (take split suffixes) (below-take split suffixes j) ∙ map-take s split suffixes in
+      let behind = docs (drop split suffixes) (below-drop _ split suffixes j) ∙ map-drop s split suffixes in
+      let others = docs (drop split prefixes) (below-drop _ split prefixes k) ∙ map-drop s split prefixes in
+      let firsts = docs (take split suffixes) (below-take _ split suffixes j) ∙ map-take s split suffixes in
       let whole : appendDoc (docOf (rest-of (head s sh before .sheet) split q .sheet) (head s sh before .node)) (docOf (rest-of (head s sh before .sheet) split q .sheet) (rest-of (head s sh before .sheet) split q .node)) ≡ there-doc s split =
       ap₂ appendDoc head-is
       (rest .unfolds ∙ (λ i. tailDoc (wrapsDoc (b .amount .0) (b .way) (coreDoc (b .amount .0) (b .way) (body-is i) (nils i) (behind i)) (others i) (drop split nests)) (firsts i))) in
@@ -141,4 +141,4 @@ format-promise c table text b prefixes suffixes nests = by (sizesRight (length p
             let y = and-true (hasAll c prefixes) (hasAll c suffixes) (x .1) in
             let z = and-true (leb (b .amount .0) 1000) (leb (b .way) 1) a in
             block-makes k b prefixes suffixes nests (leb-true _ _ (z .0)) (leb-true _ _ (z .1)) (ltb-true _ _ (x .0)) (below-of c prefixes (y .0)) (below-of c suffixes (y .1)))
-    by false c′ n e v = let z : _≡_ {A = ℕ} 0 1 = cc in absurd (omega arith)
+    by false = λ c′ n e v. let z : _≡_ {A = ℕ} 0 1 = cc in absurd (omega arith)

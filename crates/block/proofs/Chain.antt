@@ -2,7 +2,8 @@
 --     At             where the run stands: a sheet, counts and a table
 --     begin, ready   before the first part; what the next part asks
 --     ran-made, ran-older   what a constructor promises, and a node given back, as a run of one part
---     go, at, stop, last    one part more; its answer taken apart; handed on; the whole
+--     go, go-made, at, stop   one part more; its answer taken apart; handed on
+--     first-stops .. group-last   two parts and a group
 -- Assumes nothing.
 use Prim.Native.Nat.{ℕ, _+_, _*_, _/_, _≤_, _<_}
 use native.Mathlib.Omega.{arith}
@@ -11,7 +12,7 @@ use mathlib.Core.Path.{_≡_, refl, sym, ap, _∙_, subst}
 use mathlib.Core.Bool.{Bool, true, false, true≢false}
 use mathlib.Core.List.{List}
 use lib.ListN.{length}
-use borrow.Author.Tests.{eq-eqb}
+use borrow.Author.Tests.{eq-eqb, lt-ltb}
 use Rattle.table.specs.declared.NodeNo.{NodeNo}
 use Rattle.build.specs.declared.Counts.{Counts}
 use Rattle.build.specs.declared.Why.{Why}
@@ -19,12 +20,16 @@ use Rattle.build.specs.declared.Why.the-variants.{Nodes}
 use Rattle.build.specs.declared.Made.{Made}
 use Rattle.build.specs.declared.Made.the-variants.{Node, Refused}
 use Rattle.build.specs.Sheet.{Sheet, Built, counted, older}
+use Rattle.build.specs.Parts.{group}
 use Rattle.build.specs.Outcome.{fits, Outcome, outcome, added, made}
+use Rattle.build.specs.Constructors.{has, hasAll, groupMade}
 use Rattle.build.proofs.Grow.{Grown, same, then, more-nodes, more-bytes}
 use Rattle.build.proofs.Room.{Fits, fits-of, of-fits, stretch, Room}
 use Rattle.build.proofs.Stand.{Stands, same-words, stands-counted, start, Went, went-added, taken, never, done}
-use Rattle.build.proofs.Only.{Adds, adds-then, made-whole, made-short}
+use Rattle.build.proofs.Joins.{Below, below-of}
+use Rattle.build.proofs.Only.{Adds, adds-then, group-adds, made-whole, made-short}
 use Rattle.block.specs.Run.{Ready, Ran}
+use Rattle.block.proofs.Layers.{of-below}
 
 -- where a run that began with counts c over the table stands
 pub record At (c : Counts) (table text : List ℕ) (s : Sheet) (c₁ : Counts) (table₁ : List ℕ) : Type 0 where
@@ -103,7 +108,6 @@ module _ {c : Counts} {table text : List ℕ} (r : Ready c table text) where
 module _ {c : Counts} {table text : List ℕ} where
   -- one part more
   pub go : {s : Sheet} {c₁ : Counts} {table₁ : List ℕ} → At c table text s c₁ table₁ → (f : Sheet → Built) → Adds s (f s) → {m : Made} {table₂ : List ℕ} → Ran c₁ table₁ text (f (counted c₁ table₁ text)) m table₂ → Ran c table text (f s) m table₂
-  unfolding counted
   go {s} {c₁} {table₁} a f d {m} {table₂} ran =
       let is = stands-counted (a .stands) in
       let ran′ : Ran c₁ table₁ text (f s) m table₂ = subst (λ (x : Sheet). Ran c₁ table₁ text (f x) m table₂) is ran in
@@ -117,7 +121,7 @@ module _ {c : Counts} {table text : List ℕ} where
             let whole = fits-of (c .nodes) (f s .sheet .counts .nodes) 1024 (length table / 4) (omega arith) q in
             let part = stretch (c₁ .nodes) (f s .sheet .counts .nodes) whole l n (omega arith) in
             let room : Room (length table) (length text) (s .counts) (f s .sheet .counts) =
-            record { nodes = rw (← e) part; used = record { grows = more-bytes (d .grown); limited = λ x. absurd (let y = d .quiet in omega arith); inside = λ x. absurd (let y = d .quiet in omega arith) } } in
+            record { nodes = subst (λ (x : Counts). Fits (x .nodes) (f s .sheet .counts .nodes) 1024 (length table / 4)) e part; used = record { grows = more-bytes (d .grown); limited = λ x. absurd (let y = d .quiet in omega arith); inside = λ x. absurd (let y = d .quiet in omega arith) } } in
             done (went-added (a .stands) (f s) (d .grown) room (ran′ .whole (rw same (of-fits part))));
         short = λ q. by q (fits (c₁ .nodes) (f s .sheet .counts .nodes) 1024 (length table₁ / 4)) refl ran′;
       }
@@ -172,3 +176,58 @@ module _ {c : Counts} {table text : List ℕ} where
     stop e {b′} d′ =
         let none = no-room (c .nodes) (b .sheet .counts .nodes) (b′ .sheet .counts .nodes) (length table / 4) grows (more-nodes (d′ .grown)) (no-fit e) in
         record { whole = λ q. absurd (either _ q none); short = λ q. ran .short (no-fit e) }
+
+-- ---- a constructor as the next part
+
+module _ {c : Counts} {table text : List ℕ} {s : Sheet} {c₁ : Counts} {table₁ : List ℕ} (a : At c table text s c₁ table₁) where
+  pub go-made : (f : Sheet → Built) → Adds s (f s) → {present amount : Bool} → present ≡ true → amount ≡ true → {m : Made} {table₂ : List ℕ} → outcome m table₂ text ≡ made c₁ table₁ text present amount true f → Ran c table text (f s) m table₂
+  go-made f d p q o =
+      let d′ : Adds (counted c₁ table₁ text) (f (counted c₁ table₁ text)) = subst (λ (x : Sheet). Adds x (f x)) (sym (stands-counted (a .stands))) d in
+      go a f d (ran-made (ready a) f d′ p q o)
+
+  -- a node of the sheet is a present operand
+  pub operand : (n : ℕ) → n < s .counts .nodes → has c₁ n ≡ true
+  operand n h = rw (a .stands .counts) (lt-ltb n (s .counts .nodes) h)
+
+  pub counted-node : {n : ℕ} → n < s .counts .nodes → n < c₁ .nodes
+  counted-node h = rw (a .stands .counts) h
+
+  pub counted-list : (ns : List ℕ) → Below (s .counts .nodes) ns → hasAll c₁ ns ≡ true
+  counted-list ns b = rw (a .stands .counts) (of-below (s .counts) ns b)
+
+-- what is there at the start
+pub start-node : {c : Counts} {table text : List ℕ} {n : ℕ} → n < c .nodes → n < counted c table text .counts .nodes
+unfolding counted
+start-node h = h
+
+pub start-list : {c : Counts} {table text : List ℕ} (ns : List ℕ) → hasAll c ns ≡ true → Below (counted c table text .counts .nodes) ns
+unfolding counted
+start-list {c} ns h = below-of c ns h
+
+-- ---- two parts and a group
+
+module _ {c : Counts} {table text : List ℕ} (r : Ready c table text) {b₁ : Built} (d₁ : Adds (counted c table text) b₁) (f₂ : Sheet → Built) (d₂ : Adds (b₁ .sheet) (f₂ (b₁ .sheet))) where
+  abbrev b₂ : Built
+  b₂ = f₂ (b₁ .sheet)
+
+  abbrev both : Built
+  both = group (b₂ .sheet) (b₂ .node)
+
+  d₃ : Adds (b₂ .sheet) both
+  d₃ = group-adds (b₂ .sheet) (b₂ .node) (d₂ .present)
+
+  module _ {m₁ : Made} {table₁ : List ℕ} (ran₁ : Ran c table text b₁ m₁ table₁) where
+    pub first-stops : {why : Why} → m₁ ≡ Refused why → Ran c table text both m₁ table₁
+    first-stops e = stop r d₁ ran₁ e (adds-then d₂ d₃)
+
+    module _ {c₁ : Counts} {n₁ : NodeNo} (e₁ : m₁ ≡ Node c₁ n₁) {m₂ : Made} {table₂ : List ℕ} (ran₂ : Ran c₁ table₁ text (f₂ (counted c₁ table₁ text)) m₂ table₂) where
+      so-far : Ran c table text b₂ m₂ table₂
+      so-far = go (at r d₁ ran₁ e₁ .0) f₂ d₂ ran₂
+
+      pub second-stops : {why : Why} → m₂ ≡ Refused why → Ran c table text both m₂ table₂
+      second-stops e = stop r (adds-then d₁ d₂) so-far e d₃
+
+      pub group-last : {c₂ : Counts} {n₂ : NodeNo} → m₂ ≡ Node c₂ n₂ → {m₃ : Made} {table₃ : List ℕ} → outcome m₃ table₃ text ≡ groupMade c₂ table₂ text (n₂ .0) → Ran c table text both m₃ table₃
+      group-last e o =
+          let t = at r (adds-then d₁ d₂) so-far e in
+          go-made (t .0) (λ s. group s (b₂ .node)) d₃ (operand (t .0) (b₂ .node) (d₂ .present)) refl (rw (t .1) at o)

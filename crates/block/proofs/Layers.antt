@@ -25,15 +25,15 @@ use Rattle.block.specs.Block.{list, bare, guarded, nested, head, core, w
 
 -- ---- present nodes
 
-pub below-take : {N : ℕ} (k : ℕ) (ns : List ℕ) → Below N ns → Below N (take k ns)
-below-take zero ns b = tt
-below-take (suc k) [] b = tt
-below-take (suc k) (n ∷ ns) b = (b .0, below-take k ns (b .1))
+pub below-take : (N k : ℕ) (ns : List ℕ) → Below N ns → Below N (take k ns)
+below-take N zero ns b = tt
+below-take N (suc k) [] b = tt
+below-take N (suc k) (n ∷ ns) b = (b .0, below-take N k ns (b .1))
 
-pub below-drop : {N : ℕ} (k : ℕ) (ns : List ℕ) → Below N ns → Below N (drop k ns)
-below-drop zero ns b = b
-below-drop (suc k) [] b = tt
-below-drop (suc k) (n ∷ ns) b = below-drop k ns (b .1)
+pub below-drop : (N k : ℕ) (ns : List ℕ) → Below N ns → Below N (drop k ns)
+below-drop N zero ns b = b
+below-drop N (suc k) [] b = tt
+below-drop N (suc k) (n ∷ ns) b = below-drop N k ns (b .1)
 
 pub of-below : (c : Counts) (ns : List ℕ) → Below (c .nodes) ns → hasAll c ns ≡ true
 unfolding hasAll
@@ -144,22 +144,22 @@ module _ (b : Block) (sh : Shared) (prefixes suffixes : List ℕ) (nests : List 
     back = tail (wrapped .sheet) sh (wrapped .node) (take split suffixes)
 
     pub front-adds : Adds s front
-    front-adds = head-adds s sh (take split prefixes) (o .none) (o .guard) (below-take split prefixes (o .before))
+    front-adds = head-adds s sh (take split prefixes) (o .none) (o .guard) (below-take _ split prefixes (o .before))
 
     pub middle-adds : Adds (front .sheet) middle
     middle-adds =
         let p = on-still front-adds o in
-        core-adds (front .sheet) b sh (bare (front .sheet) (take split prefixes)) (drop split suffixes) (p .body) (p .none) (p .guard) (below-drop split suffixes (p .behind))
+        core-adds (front .sheet) b sh (bare (front .sheet) (take split prefixes)) (drop split suffixes) (p .body) (p .none) (p .guard) (below-drop _ split suffixes (p .behind))
 
     pub wrapped-adds : Adds (middle .sheet) wrapped
     wrapped-adds =
         let p = on-still middle-adds (on-still front-adds o) in
-        wraps-adds (middle .sheet) b (middle .node) (drop split prefixes) (drop split nests) (middle-adds .present) (below-drop split prefixes (p .before))
+        wraps-adds (middle .sheet) b (middle .node) (drop split prefixes) (drop split nests) (middle-adds .present) (below-drop _ split prefixes (p .before))
 
     pub back-adds : Adds (wrapped .sheet) back
     back-adds =
         let p = on-still wrapped-adds (on-still middle-adds (on-still front-adds o)) in
-        tail-adds (wrapped .sheet) sh (wrapped .node) (take split suffixes) (p .none) (wrapped-adds .present) (below-take split suffixes (p .behind))
+        tail-adds (wrapped .sheet) sh (wrapped .node) (take split suffixes) (p .none) (wrapped-adds .present) (below-take _ split suffixes (p .behind))
 
     pub front-there : front .node < back .sheet .counts .nodes
     front-there = stays-there back-adds (stays-there wrapped-adds (stays-there middle-adds (front-adds .present)))
