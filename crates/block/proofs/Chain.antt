@@ -196,13 +196,13 @@ module _ {c : Counts} {table text : List ℕ} {s : Sheet} {c₁ : Counts} {table
   counted-list ns b = rw (a .stands .counts) (of-below (s .counts) ns b)
 
 -- what is there at the start
-pub start-node : {c : Counts} {table text : List ℕ} {n : ℕ} → n < c .nodes → n < counted c table text .counts .nodes
+pub start-node : {c : Counts} {table text : List ℕ} → Ready c table text → {n : ℕ} → n < c .nodes → n < counted c table text .counts .nodes
 unfolding counted
-start-node h = h
+start-node r h = h
 
-pub start-list : {c : Counts} {table text : List ℕ} (ns : List ℕ) → hasAll c ns ≡ true → Below (counted c table text .counts .nodes) ns
+pub start-list : {c : Counts} {table text : List ℕ} → Ready c table text → (ns : List ℕ) → hasAll c ns ≡ true → Below (counted c table text .counts .nodes) ns
 unfolding counted
-start-list {c} ns h = below-of c ns h
+start-list {c} r ns h = below-of c ns h
 
 -- ---- two parts and a group
 

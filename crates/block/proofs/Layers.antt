@@ -5,23 +5,25 @@
 -- Assumes nothing.
 use Prim.Native.Nat.{ℕ, zero, suc, _+_, _≤_, _<_}
 use native.Mathlib.Omega.{arith}
-use mathlib.Core.Path.{_≡_, refl}
+use native.Mathlib.Numerals.{add-one}
+use mathlib.Core.Path.{_≡_, refl, ap, _∙_}
 use mathlib.Core.Bool.{Bool, true, false, _&&_}
 use mathlib.Core.List.{List, [], _∷_}
-use lib.ListN.{length, take, drop}
+use lib.ListN.{length, getD, take, drop, drop-of-length-le}
+use lib.Seq.{drop-cons}
 use lib.Dec.{ltb}
 use borrow.Author.Tests.{lt-ltb}
 use Rattle.table.specs.Pick.{pick}
 use Rattle.build.specs.declared.Counts.{Counts}
 use Rattle.build.specs.Sheet.{Sheet, Built, older}
-use Rattle.build.specs.Parts.{nil, append, group, flatAlt, nest, union, fail}
+use Rattle.build.specs.Parts.{isNil, concat, nil, append, group, flatAlt, nest, union, fail}
 use Rattle.build.specs.Constructors.{has, hasAll}
 use Rattle.build.proofs.Grow.{more-nodes}
 use Rattle.build.proofs.Joins.{Below, below-more}
 use Rattle.build.proofs.Only.{Adds, adds-then, older-adds, pick-adds, nil-adds, fail-adds, flatAlt-adds, union-adds, append-adds, group-adds, nest-adds, concat-adds}
 use Rattle.block.specs.declared.Block.{Block}
 use Rattle.block.specs.declared.Shared.{Shared}
-use Rattle.block.specs.Block.{list, bare, guarded, nested, head, core, wrap, wraps, tail, alternative, unions, layouts}
+use Rattle.block.specs.Block.{list, allNil, bare, guarded, nested, head, core, wrap, wraps, tail, alternative, unions, layouts}
 
 -- ---- present nodes
 
@@ -46,6 +48,31 @@ stays-there a h = let g = more-nodes (a .grown) in omega arith
 
 pub stay-below : {s : Sheet} {b : Built} → Adds s b → (ns : List ℕ) → Below (s .counts .nodes) ns → Below (b .sheet .counts .nodes) ns
 stay-below a ns h = below-more ns (more-nodes (a .grown)) h
+
+-- ---- a list, and whether all of it is Nil
+
+pub list-none : (s : Sheet) (none : ℕ) (ns : List ℕ) → length ns ≡ 0 → list s none ns ≡ older s none
+unfolding list
+list-none s none [] e = refl
+list-none s none (n ∷ ns) e = absurd (omega arith)
+
+pub list-some : (s : Sheet) (none : ℕ) (ns : List ℕ) → (length ns ≡ 0 → ⊥) → list s none ns ≡ concat s ns
+unfolding list
+list-some s none [] e = absurd (e refl)
+list-some s none (n ∷ ns) e = refl
+
+module _ (s : Sheet) (ns : List ℕ) where
+  pub nil-next : (i : ℕ) → i < length ns → isNil s (getD ns i 0) ≡ true → allNil s (drop i ns) ≡ allNil s (drop (i + 1) ns)
+  unfolding allNil
+  nil-next i h e = ap (allNil s) (drop-cons ns i 0 h) ∙ rw (e, add-one) refl
+
+  pub nil-not : (i : ℕ) → i < length ns → isNil s (getD ns i 0) ≡ false → allNil s (drop i ns) ≡ false
+  unfolding allNil
+  nil-not i h e = ap (allNil s) (drop-cons ns i 0 h) ∙ rw e refl
+
+  pub nil-end : (i : ℕ) → length ns ≤ i → allNil s (drop i ns) ≡ true
+  unfolding allNil
+  nil-end i h = ap (allNil s) (drop-of-length-le ns h)
 
 -- ---- one layer
 

@@ -1,5 +1,6 @@
 -- The laws of the block layouts, with no code in sight.
-mod Chain
 mod Layers
+mod Chain
+mod Steps
 mod Meaning
 pub mod Alternatives

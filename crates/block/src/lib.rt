@@ -42,10 +42,11 @@ fn all_nil(c: Counts, table: &[u32], text: &[u8], nodes: &[u32]) -> bool
 {
     let mut i = 0;
     while i < nodes.len() {
-        if !c.is_nil(table, NodeNo(nodes[i])) {
-            return false;
+        if c.is_nil(table, NodeNo(nodes[i])) {
+            i += 1;
+            continue;
         }
-        i += 1;
+        return false;
     }
     true
 }
