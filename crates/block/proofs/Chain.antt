@@ -35,6 +35,7 @@ use Rattle.block.proofs.Layers.{of-below}
 pub record At (c : Counts) (table text : List ℕ) (s : Sheet) (c₁ : Counts) (table₁ : List ℕ) : Type 0 where
   pub stands : Stands table text s c₁ table₁ text
   pub grown : Grown (counted c table text) s
+  pub quiet : s .counts .bytes ≡ c .bytes
   pub room : Fits (c .nodes) (s .counts .nodes) 1024 (length table / 4)
 
 pub begin : {c : Counts} {table text : List ℕ} → Ready c table text → At c table text (counted c table text) c table
@@ -43,6 +44,7 @@ begin {c} {table} {text} r =
     record {
       stands = start c table text (r .nodes) (r .bytes);
       grown = same (counted c table text);
+      quiet = refl;
       room = record { grows = omega arith; limited = λ l. absurd (omega arith); inside = λ l. absurd (omega arith) };
     }
 
@@ -55,6 +57,11 @@ ready {s = s} a =
 pub later : {c : Counts} {table text : List ℕ} {s : Sheet} {c₁ : Counts} {table₁ : List ℕ} → At c table text s c₁ table₁ → c .nodes ≤ c₁ .nodes
 unfolding counted
 later a = rw (a .stands .counts) (more-nodes (a .grown))
+
+-- what is added from here on, seen from the start
+pub at-adds : {c : Counts} {table text : List ℕ} {s : Sheet} {c₁ : Counts} {table₁ : List ℕ} {b : Built} → At c table text s c₁ table₁ → Adds s b → Adds (counted c table text) b
+unfolding counted
+at-adds a d = record { grown = then (a .grown) (d .grown); quiet = d .quiet ∙ a .quiet; present = d .present }
 
 -- ---- room
 
@@ -141,6 +148,10 @@ module _ {c : Counts} {table text : List ℕ} where
     unfolding counted
     grows = more-nodes (d .grown)
 
+    quietly : b .sheet .counts .bytes ≡ c .bytes
+    unfolding counted
+    quietly = d .quiet
+
     -- what stands where there was room
     gone : fit ≡ true → Went table text b m table₁ text
     unfolding counted
@@ -161,7 +172,7 @@ module _ {c : Counts} {table text : List ℕ} where
     pub at : {c₁ : Counts} {n₁ : NodeNo} → m ≡ Node c₁ n₁ → At c table text (b .sheet) c₁ table₁ × (n₁ .0 ≡ b .node)
     at e =
         let t = taken (gone (had-room e)) e in
-        (record { stands = t .0; grown = d .grown; room = fits-of _ _ _ _ grows (had-room e) }, t .1)
+        (record { stands = t .0; grown = d .grown; quiet = quietly; room = fits-of _ _ _ _ grows (had-room e) }, t .1)
 
     -- a refusal says that there was none
     no-fit : {why : Why} → m ≡ Refused why → fit ≡ false

@@ -2,5 +2,7 @@
 mod Layers
 mod Chain
 mod Steps
+mod Loops
+mod Splits
 mod Meaning
 pub mod Alternatives

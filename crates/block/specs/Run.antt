@@ -1,7 +1,7 @@
 -- A run of parts on a table of their own: all of them, or a refusal for want of nodes, whatever is then left of that table.
 use Prim.Native.Nat.{ℕ, _/_, _≤_, _<_}
 use mathlib.Core.Path.{_≡_}
-use mathlib.Core.Bool.{true, false}
+use mathlib.Core.Bool.{Bool, true, false}
 use mathlib.Core.List.{List}
 use lib.ListN.{length}
 use Rattle.build.specs.declared.Counts.{Counts}
@@ -10,7 +10,7 @@ use Rattle.build.specs.declared.Made.{Made}
 use Rattle.build.specs.declared.Made.the-variants.{Refused}
 use Rattle.build.specs.Sheet.{Built}
 use Rattle.build.specs.Outcome.{fits, outcome, added}
-use Rattle.build.specs.Constructors.{nestRight}
+use Rattle.build.specs.Constructors.{hasAll, nestRight}
 use Rattle.block.specs.declared.Block.{Block}
 use Rattle.block.specs.declared.Shared.{Shared}
 
@@ -28,6 +28,19 @@ pub record Shares (c : Counts) (sh : Shared) : Type 0 where
 pub record Bodied (c : Counts) (b : Block) : Type 0 where
   pub body : b .body .0 < c .nodes
   pub amount : nestRight (b .amount .0) (b .way) ≡ true
+
+-- all that an alternative has at hand is there
+pub record Hand (c : Counts) (b : Block) (sh : Shared) (prefixes suffixes : List ℕ) : Type 0 where
+  pub bodied : Bodied c b
+  pub shares : Shares c sh
+  pub before : hasAll c prefixes ≡ true
+  pub behind : hasAll c suffixes ≡ true
+
+-- so many affixes before, of as many as there are
+pub record Even (split : ℕ) (prefixes suffixes : List ℕ) (nests : List Bool) : Type 0 where
+  pub some : split ≤ length prefixes
+  pub behind : length suffixes ≡ length prefixes
+  pub flags : length nests ≡ length prefixes
 
 -- what was built stands over the table if there is room for it; else the refusal
 pub record Ran (c : Counts) (table text : List ℕ) (b : Built) (r : Made) (table′ : List ℕ) : Type 0 where

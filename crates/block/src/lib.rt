@@ -5,8 +5,8 @@ ghost use Prim.Native.Nat.{_<_, _≤_};
 ghost use lib.ListN.{length};
 ghost use Rattle.build.specs.Sheet.{counted};
 ghost use Rattle.build.specs.Constructors.{hasAll};
-ghost use Rattle.block.specs.Block.{list, allNil, bare, guarded, nested, head, core, wrap, wraps, tail, alternative};
-ghost use Rattle.block.specs.Run.{Ready, Shares, Bodied, Ran};
+ghost use Rattle.block.specs.Block.{list, allNil, bare, guarded, nested, head, core, wrap, wraps, tail, alternative, unions};
+ghost use Rattle.block.specs.Run.{Ready, Shares, Bodied, Hand, Even, Ran};
 use build::Counts;
 use build::Made;
 use table::Indent;
@@ -176,7 +176,7 @@ fn tail(c: Counts, table: &mut [u32], text: &[u8], shared: Shared, n: NodeNo, be
 
 // Head joined to Tail, where "before" is the first `split` affixes.
 fn alternative(c: Counts, table: &mut [u32], text: &[u8], block: Block, shared: Shared, prefixes: &[u32], suffixes: &[u32], nests: &[bool], split: usize) -> Made
-    requires { ⌜ Ready c (now table) (now text) × Bodied c block × Shares c shared × (hasAll c (now prefixes) ≡ true) × (hasAll c (now suffixes) ≡ true) × (split ≤ length (now prefixes)) × (length (now suffixes) ≡ length (now prefixes)) × (length (now nests) ≡ length (now prefixes)) ⌝ }
+    requires { ⌜ Ready c (now table) (now text) × Hand c block shared (now prefixes) (now suffixes) × Even split (now prefixes) (now suffixes) (now nests) ⌝ }
     ensures { λ r. ⌜ Ran c (now (table .entry)) (now (text .entry)) (alternative (counted c (now (table .entry)) (now (text .entry))) block shared (now (prefixes .entry)) (now (suffixes .entry)) (now (nests .entry)) split) r (now (table .exit)) ⌝ }
 {
     let first = head(c, table, text, shared, &prefixes[..split]);
@@ -197,4 +197,28 @@ fn alternative(c: Counts, table: &mut [u32], text: &[u8], block: Block, shared: 
         return fourth;
     };
     c.append(table, text, front, back)
+}
+
+// The alternatives from `split` affixes before down to one, each in a union with what stands.
+fn unions(c: Counts, table: &mut [u32], text: &[u8], block: Block, shared: Shared, prefixes: &[u32], suffixes: &[u32], nests: &[bool], n: NodeNo, split: usize) -> Made
+    requires { ⌜ Ready c (now table) (now text) × Hand c block shared (now prefixes) (now suffixes) × Even split (now prefixes) (now suffixes) (now nests) × (n .0 < c .nodes) ⌝ }
+    ensures { λ r. ⌜ Ran c (now (table .entry)) (now (text .entry)) (unions (counted c (now (table .entry)) (now (text .entry))) block shared (now (prefixes .entry)) (now (suffixes .entry)) (now (nests .entry)) (n .0) split) r (now (table .exit)) ⌝ }
+{
+    let mut c = c;
+    let mut n = n;
+    let mut split = split;
+    while 0 < split {
+        let made = alternative(c, table, text, block, shared, prefixes, suffixes, nests, split);
+        let Made::Node(next, other) = made else {
+            return made;
+        };
+        let joined = next.union(table, text, n, other);
+        let Made::Node(next, both) = joined else {
+            return joined;
+        };
+        c = next;
+        n = both;
+        split -= 1;
+    }
+    Made::Node(c, n)
 }
