@@ -152,6 +152,17 @@ pub record Left (c : Counts) (table text : List ℕ) (b : Block) (sh : Shared) (
   pub there : n₁ .0 < c₁ .nodes
   pub ends : unions (counted c₁ table₁ text) b sh ps ss qs (n₁ .0) split ≡ whole
 
+-- a turn goes from split to split - 1, and ends at 0
+module _ (c : Counts) (table text : List ℕ) (b : Block) (sh : Shared) (ps ss : List ℕ) (qs : List Bool) (whole : Built) (split : ℕ) where
+  pub left-turn : 0 < split → {c₁ : Counts} {n₁ : NodeNo} {table₁ : List ℕ} → Left c table text b sh ps ss qs whole split c₁ n₁ table₁ → Left c table text b sh ps ss qs whole (suc (split - 1)) c₁ n₁ table₁
+  left-turn h {c₁} {n₁} {table₁} w = subst (λ (j : ℕ). Left c table text b sh ps ss qs whole j c₁ n₁ table₁) (omega arith) w
+
+  pub left-zero : split ≤ 0 → {c₁ : Counts} {n₁ : NodeNo} {table₁ : List ℕ} → Left c table text b sh ps ss qs whole split c₁ n₁ table₁ → Left c table text b sh ps ss qs whole 0 c₁ n₁ table₁
+  left-zero h {c₁} {n₁} {table₁} w = subst (λ (j : ℕ). Left c table text b sh ps ss qs whole j c₁ n₁ table₁) (omega arith) w
+
+pub alternative-turn : (c : Counts) (table text : List ℕ) (b : Block) (sh : Shared) (ps ss : List ℕ) (qs : List Bool) (split : ℕ) → 0 < split → {m : Made} {table₁ : List ℕ} → Ran c table text (alternative (counted c table text) b sh ps ss qs split) m table₁ → Ran c table text (alternative (counted c table text) b sh ps ss qs (suc (split - 1))) m table₁
+alternative-turn c table text b sh ps ss qs split h {m} {table₁} ran = subst (λ (j : ℕ). Ran c table text (alternative (counted c table text) b sh ps ss qs j) m table₁) (omega arith) ran
+
 module _ {c : Counts} {table text : List ℕ} (r : Ready c table text) {b : Block} {sh : Shared} {ps ss : List ℕ} (k : Hand c b sh ps ss) (qs : List Bool) (whole : Built) where
   abbrev first : Sheet
   first = counted c table text

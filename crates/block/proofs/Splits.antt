@@ -1,10 +1,11 @@
 -- An alternative, part by part, as the proof of the code asks for them: head, core, wraps, tail, join. Assumes nothing.
-use Prim.Native.Nat.{ℕ, _≤_, _<_}
+use Prim.Native.Nat.{ℕ, _-_, _≤_, _<_}
 use native.Mathlib.Omega.{arith}
 use mathlib.Core.Path.{_≡_, refl, sym, ap, _∙_}
 use mathlib.Core.Bool.{Bool, true, _&&_}
 use mathlib.Core.List.{List}
 use lib.ListN.{length, take, drop, length-drop}
+use lib.Seq.{take-all}
 use Rattle.table.specs.declared.NodeNo.{NodeNo}
 use Rattle.build.specs.declared.Counts.{Counts}
 use Rattle.build.specs.declared.Why.{Why}
@@ -24,6 +25,10 @@ use Rattle.block.proofs.Layers.{of-below, below-take, below-drop, stays
 use Rattle.block.proofs.Chain.{At, ready, go, go-made, at, stop, counted-node, counted-list}
 use Rattle.block.proofs.Steps.{shares-later, bodied-later, two}
 use Rattle.block.proofs.Loops.{on-hand}
+
+-- a part from k on is what is left of the list
+pub rest-all : {A : Type 0} (xs : List A) (k : ℕ) → take (length xs - k) (drop k xs) ≡ drop k xs
+rest-all xs k = take-all (length xs - k) (drop k xs) (rw (length-drop k xs) (omega arith))
 
 module _ {c : Counts} {table text : List ℕ} (r : Ready c table text) {b : Block} {sh : Shared} {ps ss : List ℕ} (k : Hand c b sh ps ss) (qs : List Bool) (split : ℕ) where
   abbrev s₀ : Sheet

@@ -7,7 +7,7 @@ use lib.ListN.{length, drop, getD}
 use Rattle.build.specs.Sheet.{counted}
 use Rattle.build.proofs.Stand.{same-words}
 use Rattle.block.specs.Block.{wraps}
-use Rattle.block.proofs.Loops.{Wrapping, wrap-turn, wrap-start, wrap-asks, wrap-stop, wrap-next, wrap-end}
+use Rattle.block.proofs.Loops.{Wrapping, wrap-turn, wrap-zero, wrap-start, wrap-asks, wrap-stop, wrap-next, wrap-end}
 use Rattle.block.proofs.wraps.Statement.{statement}
 use Rattle.block.proofs.wraps.Tie as tie
 
