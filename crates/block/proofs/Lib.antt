@@ -4,5 +4,6 @@ mod Chain
 mod Steps
 mod Loops
 mod Splits
+mod Starts
 mod Meaning
 pub mod Alternatives

@@ -106,6 +106,10 @@ unfoldable pub block : Sheet → Block → List ℕ → List ℕ → List Bool �
 block s b [] suffixes nests = older s (b .body .0)
 block s b (p ∷ ps) suffixes nests = layouts s b (p ∷ ps) suffixes nests (length ps)
 
+-- what is built at least: nothing without affixes, else the Nil, the Fail and the guard
+abbrev pub least : ℕ → ℕ
+least affixes = pick (eqb affixes 0) 0 3
+
 -- at most 8 affixes, each with a prefix, a suffix and a flag
 abbrev pub sizesRight : ℕ → ℕ → ℕ → Bool
 sizesRight prefixes suffixes nests = leb prefixes 8 && eqb suffixes prefixes && eqb nests prefixes

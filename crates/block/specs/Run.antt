@@ -42,6 +42,14 @@ pub record Even (split : ℕ) (prefixes suffixes : List ℕ) (nests : List Bool)
   pub behind : length suffixes ≡ length prefixes
   pub flags : length nests ≡ length prefixes
 
+-- a block with affixes, all that it names there and its amount right
+pub record Askable (c : Counts) (b : Block) (prefixes suffixes : List ℕ) (nests : List Bool) : Type 0 where
+  pub bodied : Bodied c b
+  pub before : hasAll c prefixes ≡ true
+  pub behind : hasAll c suffixes ≡ true
+  pub even : Even (length prefixes) prefixes suffixes nests
+  pub some : 0 < length prefixes
+
 -- what was built stands over the table if there is room for it; else the refusal
 pub record Ran (c : Counts) (table text : List ℕ) (b : Built) (r : Made) (table′ : List ℕ) : Type 0 where
   pub whole : fits (c .nodes) (b .sheet .counts .nodes) 1024 (length table / 4) ≡ true → outcome r table′ text ≡ added b table text
