@@ -300,7 +300,12 @@ fn operands(c: Counts, block: Block, prefixes: &[u32], suffixes: &[u32]) -> bool
     ensures { λ r. ⌜ r ≡ operands c block (now (prefixes .entry)) (now (suffixes .entry)) ⌝ }
 {
     let body = block.body;
-    c.has(body) && c.has_all(prefixes) && c.has_all(suffixes)
+    if c.has(body) {
+        if c.has_all(prefixes) {
+            return c.has_all(suffixes);
+        }
+    }
+    false
 }
 
 // What is built at least: nothing without affixes, else the Nil, the Fail and the guard.
