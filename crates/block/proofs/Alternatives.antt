@@ -30,7 +30,7 @@ use Rattle.build.proofs.Compose.{docs-still}
 use Rattle.build.proofs.Promises.{promise}
 use Rattle.block.specs.declared.Block.{Block}
 use Rattle.block.specs.declared.Shared.{Shared}
-use Rattle.block.specs.Block.{bare, head, core, wraps, tail, alternative, unions, layouts, block, sizesRight, operands, formatMade}
+use Rattle.block.specs.Block.{bare, head, core, wraps, tail, alternative, unions, layouts, blockOf, sizesRight, operands, formatMade}
 use Rattle.block.specs.Documents.{bareDoc, headDoc, tailDoc, coreDoc, wrapsDoc, alternativeDoc, unionsDoc, blockDoc}
 use Rattle.block.proofs.Layers.{below-take, below-drop}
 use Rattle.block.proofs.Meaning.{Stand, stand-still, below-still, bare-is, map-take, map-drop, map-length, head-makes, tail-makes, core-makes, wraps-makes}
@@ -118,8 +118,8 @@ module _ (b : Block) (prefixes suffixes : List ℕ) (nests : List Bool) (p : b .
       after all (meaning (λ i. unionsDoc (b .amount .0) (b .way) (body-is i) (before i) (behind i) nests (d i) others) rest)
 
 -- the whole: none gives the body
-pub block-makes : {s : Sheet} → Clean s → (b : Block) (prefixes suffixes : List ℕ) (nests : List Bool) → b .amount .0 ≤ 1000 → b .way ≤ 1 → b .body .0 < s .counts .nodes → Below (s .counts .nodes) prefixes → Below (s .counts .nodes) suffixes → Makes s (block s b prefixes suffixes nests) (blockDoc (b .amount .0) (b .way) (docOf s (b .body .0)) (map (docOf s) prefixes) (map (docOf s) suffixes) nests)
-unfolding block blockDoc
+pub block-makes : {s : Sheet} → Clean s → (b : Block) (prefixes suffixes : List ℕ) (nests : List Bool) → b .amount .0 ≤ 1000 → b .way ≤ 1 → b .body .0 < s .counts .nodes → Below (s .counts .nodes) prefixes → Below (s .counts .nodes) suffixes → Makes s (blockOf s b prefixes suffixes nests) (blockDoc (b .amount .0) (b .way) (docOf s (b .body .0)) (map (docOf s) prefixes) (map (docOf s) suffixes) nests)
+unfolding blockOf blockDoc
 block-makes c b [] suffixes nests p w l k j = older-makes c (b .body .0) l
 block-makes {s} c b (x ∷ ps) suffixes nests p w l k j =
     meaning (ap (λ (n : ℕ). unionsDoc (b .amount .0) (b .way) (docOf s (b .body .0)) (map (docOf s) (x ∷ ps)) (map (docOf s) suffixes) nests (alternativeDoc (b .amount .0) (b .way) (docOf s (b .body .0)) (map (docOf s) (x ∷ ps)) (map (docOf s) suffixes) nests (suc n)) n) (sym (map-length s ps)))
@@ -133,12 +133,12 @@ format-promise c table text b prefixes suffixes nests = by (sizesRight (length p
     d : Doc
     d = blockDoc (b .amount .0) (b .way) (docAt c table text (b .body .0)) (map (docAt c table text) prefixes) (map (docAt c table text) suffixes) nests
 
-    by : (q : Bool) → Promise c table text (pick q (made c table text (operands c b prefixes suffixes) (nestRight (b .amount .0) (b .way)) true (λ s. block s b prefixes suffixes nests)) (outcome (Refused Sizes) table text)) d
+    by : (q : Bool) → Promise c table text (pick q (made c table text (operands c b prefixes suffixes) (nestRight (b .amount .0) (b .way)) true (λ s. blockOf s b prefixes suffixes nests)) (outcome (Refused Sizes) table text)) d
     by true =
-        promise c table text (operands c b prefixes suffixes) (nestRight (b .amount .0) (b .way)) true (λ s. block s b prefixes suffixes nests) d
+        promise c table text (operands c b prefixes suffixes) (nestRight (b .amount .0) (b .way)) true (λ s. blockOf s b prefixes suffixes nests) d
         (λ k o a r.
-            let x = and-true (has c (b .body .0)) (hasAll c prefixes && hasAll c suffixes) o in
-            let y = and-true (hasAll c prefixes) (hasAll c suffixes) (x .1) in
-            let z = and-true (leb (b .amount .0) 1000) (leb (b .way) 1) a in
-            block-makes k b prefixes suffixes nests (leb-true _ _ (z .0)) (leb-true _ _ (z .1)) (ltb-true _ _ (x .0)) (below-of c prefixes (y .0)) (below-of c suffixes (y .1)))
+        let x = and-true (has c (b .body .0)) (hasAll c prefixes && hasAll c suffixes) o in
+        let y = and-true (hasAll c prefixes) (hasAll c suffixes) (x .1) in
+        let z = and-true (leb (b .amount .0) 1000) (leb (b .way) 1) a in
+        block-makes k b prefixes suffixes nests (leb-true _ _ (z .0)) (leb-true _ _ (z .1)) (ltb-true _ _ (x .0)) (below-of c prefixes (y .0)) (below-of c suffixes (y .1)))
     by false = λ c′ n e v. let z : _≡_ {A = ℕ} 0 1 = cc in absurd (omega arith)

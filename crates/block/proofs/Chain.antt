@@ -84,7 +84,7 @@ fits-then {a} {b} {c} {limit} {lent} f g =
     by-lent (no l) h = let q = g .grows in let e : b ≡ c = omega arith in let k = f .inside (omega arith) in omega arith
 
 -- no room for a part: no room for the whole
-no-room : (c n m lent : ℕ) → c ≤ n → n ≤ m → fits c n 1024 lent ≡ false → fits c m 1024 lent ≡ false
+pub no-room : (c n m lent : ℕ) → c ≤ n → n ≤ m → fits c n 1024 lent ≡ false → fits c m 1024 lent ≡ false
 no-room c n m lent a b e = by (fits c m 1024 lent) refl
   where
     by : (q : Bool) → fits c m 1024 lent ≡ q → fits c m 1024 lent ≡ false
@@ -161,7 +161,7 @@ module _ {c : Counts} {table text : List ℕ} where
         went-added (start c table text (r .nodes) (r .bytes)) b (d .grown) room (ran .whole e)
 
     -- a node says that there was room
-    had-room : {c₁ : Counts} {n₁ : NodeNo} → m ≡ Node c₁ n₁ → fit ≡ true
+    pub had-room : {c₁ : Counts} {n₁ : NodeNo} → m ≡ Node c₁ n₁ → fit ≡ true
     had-room {c₁} {n₁} e = by fit refl
       where
         by : (q : Bool) → fit ≡ q → fit ≡ true
@@ -175,7 +175,7 @@ module _ {c : Counts} {table text : List ℕ} where
         (record { stands = t .0; grown = d .grown; quiet = quietly; room = fits-of _ _ _ _ grows (had-room e) }, t .1)
 
     -- a refusal says that there was none
-    no-fit : {why : Why} → m ≡ Refused why → fit ≡ false
+    pub no-fit : {why : Why} → m ≡ Refused why → fit ≡ false
     no-fit {why} e = by fit refl
       where
         by : (q : Bool) → fit ≡ q → fit ≡ false

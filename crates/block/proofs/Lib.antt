@@ -5,5 +5,7 @@ mod Steps
 mod Loops
 mod Splits
 mod Starts
+mod Places
+mod Asking
 mod Meaning
 pub mod Alternatives

@@ -21,7 +21,7 @@ use Rattle.build.proofs.Means.{Makes, there, still, after, meaning, older-makes
 use Rattle.build.proofs.Compose.{docs-still, grouped-makes, concat-makes}
 use Rattle.block.specs.declared.Block.{Block}
 use Rattle.block.specs.declared.Shared.{Shared}
-use Rattle.block.specs.Block.{list, allNil, bare, guarded, nested, head, core, wrap, wraps, tail, alternative, unions, layouts, block}
+use Rattle.block.specs.Block.{list, allNil, bare, guarded, nested, head, core, wrap, wraps, tail, alternative, unions, layouts, blockOf}
 use Rattle.block.specs.Documents.{allNilDoc, bareDoc, guardDoc, guardedDoc, headDoc, tailDoc, coreDoc, wrapDoc, wrapsDoc, alternativeDoc, unionsDoc, blockDoc}
 
 -- ---- one layer

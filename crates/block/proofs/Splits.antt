@@ -102,12 +102,13 @@ module _ {c : Counts} {table text : List ℕ} (r : Ready c table text) {b : Bloc
           t₂ = at r e₂ so₂ x₂
 
           pub split-asks₃ : length qs ≡ length ps → Ready c₂ table₂ text × Bodied c₂ b × (n₂ .0 < c₂ .nodes) × (hasAll c₂ (drop split ps) ≡ true) × (length (drop split qs) ≡ length (drop split ps))
-          split-asks₃ e =
-              (ready (t₂ .0),
-              bodied-later (t₂ .0) (k .bodied),
-              rw (t₂ .1) (counted-node (t₂ .0) (d₂ .present)),
-              counted-list (t₂ .0) (drop split ps) (below-drop _ split ps (on-still e₂ on .before)),
-              rw (length-drop split qs, length-drop split ps, e) refl)
+          split-asks₃ e = (
+            ready (t₂ .0),
+            bodied-later (t₂ .0) (k .bodied),
+            rw (t₂ .1) (counted-node (t₂ .0) (d₂ .present)),
+            counted-list (t₂ .0) (drop split ps) (below-drop _ split ps (on-still e₂ on .before)),
+            rw (length-drop split qs, length-drop split ps, e) refl,
+          )
 
           module _ {m₃ : Made} {table₃ : List ℕ} (ran₃ : Ran c₂ table₂ text (wraps (counted c₂ table₂ text) b (n₂ .0) (drop split ps) (drop split qs)) m₃ table₃) where
             so₃ : Ran c table text wrapped m₃ table₃

@@ -171,17 +171,18 @@ module _ {c : Counts} {table text : List ℕ} (r : Ready c table text) {b : Bloc
 
               pub start-asks₅ : Ready c₄ table₄ text × Hand c₄ b (record { none = n₁; guard = n₃ }) ps ss × Even (length ps - 1) ps ss qs × (n₄ .0 < c₄ .nodes)
               start-asks₅ =
-                  let l = later (t₄ .0) in
-                  (ready (t₄ .0),
-                  rw shared-is
-                  (record {
-                    bodied = bodied-later (t₄ .0) (k .bodied);
-                    shares = record { none = counted-node (t₄ .0) (stays-there a₄ (none-there s₀)); guard = counted-node (t₄ .0) (stays-there a₄ (d₃ s₀ .present)) };
-                    before = of-below c₄ ps (below-more ps l (below-of c ps (k .before)));
-                    behind = of-below c₄ ss (below-more ss l (below-of c ss (k .behind)));
-                  }),
-                  record { some = omega arith; behind = k .even .behind; flags = k .even .flags },
-                  rw (t₄ .1) (counted-node (t₄ .0) (a₄ .present)))
+                  let l = later (t₄ .0) in (
+                    ready (t₄ .0),
+                    rw shared-is
+                        (record {
+                          bodied = bodied-later (t₄ .0) (k .bodied);
+                          shares = record { none = counted-node (t₄ .0) (stays-there a₄ (none-there s₀)); guard = counted-node (t₄ .0) (stays-there a₄ (d₃ s₀ .present)) };
+                          before = of-below c₄ ps (below-more ps l (below-of c ps (k .before)));
+                          behind = of-below c₄ ss (below-more ss l (below-of c ss (k .behind)));
+                        }),
+                    record { some = omega arith; behind = k .even .behind; flags = k .even .flags },
+                    rw (t₄ .1) (counted-node (t₄ .0) (a₄ .present)),
+                  )
 
               pub start-last : {m₅ : Made} {table₅ : List ℕ} → Ran c₄ table₄ text (unions (counted c₄ table₄ text) b (record { none = n₁; guard = n₃ }) ps ss qs (n₄ .0) (length ps - 1)) m₅ table₅ → Ran c table text whole m₅ table₅
               unfolding layouts

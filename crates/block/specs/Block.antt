@@ -102,9 +102,9 @@ layouts s b prefixes suffixes nests others =
     unions (first .sheet) b sh prefixes suffixes nests (first .node) others
 
 -- none gives the body and builds nothing
-unfoldable pub block : Sheet → Block → List ℕ → List ℕ → List Bool → Built
-block s b [] suffixes nests = older s (b .body .0)
-block s b (p ∷ ps) suffixes nests = layouts s b (p ∷ ps) suffixes nests (length ps)
+unfoldable pub blockOf : Sheet → Block → List ℕ → List ℕ → List Bool → Built
+blockOf s b [] suffixes nests = older s (b .body .0)
+blockOf s b (p ∷ ps) suffixes nests = layouts s b (p ∷ ps) suffixes nests (length ps)
 
 -- what is built at least: nothing without affixes, else the Nil, the Fail and the guard
 abbrev pub least : ℕ → ℕ
@@ -121,5 +121,5 @@ operands c b prefixes suffixes = has c (b .body .0) && (hasAll c prefixes && has
 unfoldable pub formatMade : Counts → List ℕ → List ℕ → Block → List ℕ → List ℕ → List Bool → Outcome
 formatMade c table text b prefixes suffixes nests =
     pick (sizesRight (length prefixes) (length suffixes) (length nests))
-    (made c table text (operands c b prefixes suffixes) (nestRight (b .amount .0) (b .way)) true (λ s. block s b prefixes suffixes nests))
+    (made c table text (operands c b prefixes suffixes) (nestRight (b .amount .0) (b .way)) true (λ s. blockOf s b prefixes suffixes nests))
     (outcome (Refused Sizes) table text)

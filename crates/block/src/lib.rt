@@ -6,8 +6,8 @@ ghost use lib.ListN.{length, take, drop};
 ghost use Rattle.buffer.specs.Run.{put};
 ghost use Rattle.build.specs.Outcome.{outcome, made};
 ghost use Rattle.build.specs.Sheet.{counted};
-ghost use Rattle.build.specs.Constructors.{hasAll};
-ghost use Rattle.block.specs.Block.{list, allNil, bare, guarded, nested, head, core, wrap, wraps, tail, alternative, unions, layouts, sizesRight, operands, least, formatMade};
+ghost use Rattle.build.specs.Constructors.{hasAll, nestRight};
+ghost use Rattle.block.specs.Block.{list, allNil, bare, guarded, nested, head, core, wrap, wraps, tail, alternative, unions, layouts, blockOf, sizesRight, operands, least, formatMade};
 ghost use Rattle.block.specs.Run.{Ready, Shares, Bodied, Hand, Even, Askable, Ran};
 use build::Asked;
 use build::Asks;
@@ -64,7 +64,14 @@ fn bare(c: Counts, table: &[u32], text: &[u8], before: &[u32]) -> bool
 }
 
 // A node, joined to the guard if asked.
-fn guarded(c: Counts, table: &mut [u32], text: &[u8], shared: Shared, n: NodeNo, asked: bool) -> Made
+fn guarded(
+    c: Counts,
+    table: &mut [u32],
+    text: &[u8],
+    shared: Shared,
+    n: NodeNo,
+    asked: bool,
+) -> Made
     requires { ⌜ Ready c (now table) (now text) × Shares c shared × (n .0 < c .nodes) ⌝ }
     ensures { λ r. ⌜ Ran c (now (table .entry)) (now (text .entry)) (guarded (counted c (now (table .entry)) (now (text .entry))) shared (n .0) asked) r (now (table .exit)) ⌝ }
 {
@@ -105,7 +112,15 @@ fn head(c: Counts, table: &mut [u32], text: &[u8], shared: Shared, before: &[u32
 }
 
 // Body, joined to the guard if asked, nested, then after's suffixes.
-fn core(c: Counts, table: &mut [u32], text: &[u8], block: Block, shared: Shared, asked: bool, after: &[u32]) -> Made
+fn core(
+    c: Counts,
+    table: &mut [u32],
+    text: &[u8],
+    block: Block,
+    shared: Shared,
+    asked: bool,
+    after: &[u32],
+) -> Made
     requires { ⌜ Ready c (now table) (now text) × Bodied c block × Shares c shared × (hasAll c (now after) ≡ true) ⌝ }
     ensures { λ r. ⌜ Ran c (now (table .entry)) (now (text .entry)) (core (counted c (now (table .entry)) (now (text .entry))) block shared asked (now (after .entry))) r (now (table .exit)) ⌝ }
 {
@@ -127,7 +142,15 @@ fn core(c: Counts, table: &mut [u32], text: &[u8], block: Block, shared: Shared,
 }
 
 // A prefix joined before what stands, nested if flagged, grouped.
-fn wrap(c: Counts, table: &mut [u32], text: &[u8], block: Block, n: NodeNo, prefix: NodeNo, flag: bool) -> Made
+fn wrap(
+    c: Counts,
+    table: &mut [u32],
+    text: &[u8],
+    block: Block,
+    n: NodeNo,
+    prefix: NodeNo,
+    flag: bool,
+) -> Made
     requires { ⌜ Ready c (now table) (now text) × Bodied c block × (n .0 < c .nodes) × (prefix .0 < c .nodes) ⌝ }
     ensures { λ r. ⌜ Ran c (now (table .entry)) (now (text .entry)) (wrap (counted c (now (table .entry)) (now (text .entry))) block (n .0) (prefix .0) flag) r (now (table .exit)) ⌝ }
 {
@@ -143,7 +166,15 @@ fn wrap(c: Counts, table: &mut [u32], text: &[u8], block: Block, n: NodeNo, pref
 }
 
 // From the last of after to the first.
-fn wraps(c: Counts, table: &mut [u32], text: &[u8], block: Block, n: NodeNo, prefixes: &[u32], nests: &[bool]) -> Made
+fn wraps(
+    c: Counts,
+    table: &mut [u32],
+    text: &[u8],
+    block: Block,
+    n: NodeNo,
+    prefixes: &[u32],
+    nests: &[bool],
+) -> Made
     requires { ⌜ Ready c (now table) (now text) × Bodied c block × (n .0 < c .nodes) × (hasAll c (now prefixes) ≡ true) × (length (now nests) ≡ length (now prefixes)) ⌝ }
     ensures { λ r. ⌜ Ran c (now (table .entry)) (now (text .entry)) (wraps (counted c (now (table .entry)) (now (text .entry))) block (n .0) (now (prefixes .entry)) (now (nests .entry))) r (now (table .exit)) ⌝ }
 {
@@ -163,7 +194,14 @@ fn wraps(c: Counts, table: &mut [u32], text: &[u8], block: Block, n: NodeNo, pre
 }
 
 // A group of Core and before's suffixes.
-fn tail(c: Counts, table: &mut [u32], text: &[u8], shared: Shared, n: NodeNo, before: &[u32]) -> Made
+fn tail(
+    c: Counts,
+    table: &mut [u32],
+    text: &[u8],
+    shared: Shared,
+    n: NodeNo,
+    before: &[u32],
+) -> Made
     requires { ⌜ Ready c (now table) (now text) × Shares c shared × (n .0 < c .nodes) × (hasAll c (now before) ≡ true) ⌝ }
     ensures { λ r. ⌜ Ran c (now (table .entry)) (now (text .entry)) (tail (counted c (now (table .entry)) (now (text .entry))) shared (n .0) (now (before .entry))) r (now (table .exit)) ⌝ }
 {
@@ -180,7 +218,17 @@ fn tail(c: Counts, table: &mut [u32], text: &[u8], shared: Shared, n: NodeNo, be
 }
 
 // Head joined to Tail, where "before" is the first `split` affixes.
-fn alternative(c: Counts, table: &mut [u32], text: &[u8], block: Block, shared: Shared, prefixes: &[u32], suffixes: &[u32], nests: &[bool], split: usize) -> Made
+fn alternative(
+    c: Counts,
+    table: &mut [u32],
+    text: &[u8],
+    block: Block,
+    shared: Shared,
+    prefixes: &[u32],
+    suffixes: &[u32],
+    nests: &[bool],
+    split: usize,
+) -> Made
     requires { ⌜ Ready c (now table) (now text) × Hand c block shared (now prefixes) (now suffixes) × Even split (now prefixes) (now suffixes) (now nests) ⌝ }
     ensures { λ r. ⌜ Ran c (now (table .entry)) (now (text .entry)) (alternative (counted c (now (table .entry)) (now (text .entry))) block shared (now (prefixes .entry)) (now (suffixes .entry)) (now (nests .entry)) split) r (now (table .exit)) ⌝ }
 {
@@ -193,7 +241,15 @@ fn alternative(c: Counts, table: &mut [u32], text: &[u8], block: Block, shared: 
     let Made::Node(c, middle) = second else {
         return second;
     };
-    let third = wraps(c, table, text, block, middle, &prefixes[split..], &nests[split..]);
+    let third = wraps(
+        c,
+        table,
+        text,
+        block,
+        middle,
+        &prefixes[split..],
+        &nests[split..],
+    );
     let Made::Node(c, wrapped) = third else {
         return third;
     };
@@ -205,7 +261,18 @@ fn alternative(c: Counts, table: &mut [u32], text: &[u8], block: Block, shared: 
 }
 
 // The alternatives from `split` affixes before down to one, each in a union with what stands.
-fn unions(c: Counts, table: &mut [u32], text: &[u8], block: Block, shared: Shared, prefixes: &[u32], suffixes: &[u32], nests: &[bool], n: NodeNo, split: usize) -> Made
+fn unions(
+    c: Counts,
+    table: &mut [u32],
+    text: &[u8],
+    block: Block,
+    shared: Shared,
+    prefixes: &[u32],
+    suffixes: &[u32],
+    nests: &[bool],
+    n: NodeNo,
+    split: usize,
+) -> Made
     requires { ⌜ Ready c (now table) (now text) × Hand c block shared (now prefixes) (now suffixes) × Even split (now prefixes) (now suffixes) (now nests) × (n .0 < c .nodes) ⌝ }
     ensures { λ r. ⌜ Ran c (now (table .entry)) (now (text .entry)) (unions (counted c (now (table .entry)) (now (text .entry))) block shared (now (prefixes .entry)) (now (suffixes .entry)) (now (nests .entry)) (n .0) split) r (now (table .exit)) ⌝ }
 {
@@ -213,7 +280,17 @@ fn unions(c: Counts, table: &mut [u32], text: &[u8], block: Block, shared: Share
     let mut n = n;
     let mut split = split;
     while 0 < split {
-        let made = alternative(c, table, text, block, shared, prefixes, suffixes, nests, split);
+        let made = alternative(
+            c,
+            table,
+            text,
+            block,
+            shared,
+            prefixes,
+            suffixes,
+            nests,
+            split,
+        );
         let Made::Node(next, other) = made else {
             return made;
         };
@@ -229,7 +306,15 @@ fn unions(c: Counts, table: &mut [u32], text: &[u8], block: Block, shared: Share
 }
 
 // One Nil, one Fail and the guard; then all affixes before, and down to one.
-fn layouts(c: Counts, table: &mut [u32], text: &[u8], block: Block, prefixes: &[u32], suffixes: &[u32], nests: &[bool]) -> Made
+fn layouts(
+    c: Counts,
+    table: &mut [u32],
+    text: &[u8],
+    block: Block,
+    prefixes: &[u32],
+    suffixes: &[u32],
+    nests: &[bool],
+) -> Made
     requires { ⌜ Ready c (now table) (now text) × Askable c block (now prefixes) (now suffixes) (now nests) ⌝ }
     ensures { λ r. ⌜ Ran c (now (table .entry)) (now (text .entry)) (layouts (counted c (now (table .entry)) (now (text .entry))) block (now (prefixes .entry)) (now (suffixes .entry)) (now (nests .entry)) (length (now (prefixes .entry)) - 1)) r (now (table .exit)) ⌝ }
 {
@@ -250,11 +335,32 @@ fn layouts(c: Counts, table: &mut [u32], text: &[u8], block: Block, prefixes: &[
         none: none,
         guard: guard,
     };
-    let fourth = alternative(c, table, text, block, shared, prefixes, suffixes, nests, all);
+    let fourth = alternative(
+        c,
+        table,
+        text,
+        block,
+        shared,
+        prefixes,
+        suffixes,
+        nests,
+        all,
+    );
     let Made::Node(c, n) = fourth else {
         return fourth;
     };
-    unions(c, table, text, block, shared, prefixes, suffixes, nests, n, all - 1)
+    unions(
+        c,
+        table,
+        text,
+        block,
+        shared,
+        prefixes,
+        suffixes,
+        nests,
+        n,
+        all - 1,
+    )
 }
 
 // The n words of src from `from` on stand in dst from `at` on.
@@ -270,7 +376,15 @@ fn copy_words(src: &[u32], from: usize, n: usize, dst: &mut [u32], at: usize)
 }
 
 // All layouts, built on a table of their own and laid over the lent one if they fit, so that a refusal leaves it as it was.
-fn placed(c: Counts, table: &mut [u32], text: &[u8], block: Block, prefixes: &[u32], suffixes: &[u32], nests: &[bool]) -> Made
+fn placed(
+    c: Counts,
+    table: &mut [u32],
+    text: &[u8],
+    block: Block,
+    prefixes: &[u32],
+    suffixes: &[u32],
+    nests: &[bool],
+) -> Made
     requires { ⌜ Ready c (now table) (now text) × Askable c block (now prefixes) (now suffixes) (now nests) × (c .nodes + 3 ≤ 1024) ⌝ }
     ensures { λ r. ⌜ outcome r (now (table .exit)) (now (text .entry)) ≡ made c (now (table .entry)) (now (text .entry)) true true true (λ s. layouts s block (now (prefixes .entry)) (now (suffixes .entry)) (now (nests .entry)) (length (now (prefixes .entry)) - 1)) ⌝ }
 {
@@ -315,37 +429,61 @@ fn least(affixes: usize) -> usize
     if affixes == 0 { 0 } else { 3 }
 }
 
+// What is asked for the whole is asked first: with the Nil, the Fail and the guard, if there are affixes.
+fn within(
+    c: Counts,
+    table: &mut [u32],
+    text: &[u8],
+    block: Block,
+    prefixes: &[u32],
+    suffixes: &[u32],
+    nests: &[bool],
+) -> Made
+    requires { ⌜ sizesRight (length (now prefixes)) (length (now suffixes)) (length (now nests)) ≡ true ⌝ }
+    ensures { λ r. ⌜ outcome r (now (table .exit)) (now (text .entry)) ≡ made c (now (table .entry)) (now (text .entry)) (operands c block (now (prefixes .entry)) (now (suffixes .entry))) (nestRight (block .amount .0) (block .way)) true (λ s. blockOf s block (now (prefixes .entry)) (now (suffixes .entry)) (now (nests .entry))) ⌝ }
+{
+    let body = block.body;
+    let amount = block.amount;
+    let present = operands(c, block, prefixes, suffixes);
+    let right = build::nest_right(amount, block.way);
+    let few = least(prefixes.len());
+    let asked = c.ask(
+        table.len(),
+        text.len(),
+        Asks {
+            present: present,
+            amount: right,
+            text: true,
+            nodes: few,
+            bytes: 0,
+        },
+    );
+    if let Asked::Denied(why) = asked {
+        return Made::Refused(why);
+    }
+    if prefixes.len() == 0 {
+        return Made::Node(c, body);
+    }
+    placed(c, table, text, block, prefixes, suffixes, nests)
+}
+
 impl Block {
     // The block layouts of the body between the affixes, in document 01's order. The affixes come as three lists: their prefixes,
     // their suffixes, and whether each is nested.
-    pub fn format(self, c: Counts, table: &mut [u32], text: &[u8], prefixes: &[u32], suffixes: &[u32], nests: &[bool]) -> Made
+    pub fn format(
+        self,
+        c: Counts,
+        table: &mut [u32],
+        text: &[u8],
+        prefixes: &[u32],
+        suffixes: &[u32],
+        nests: &[bool],
+    ) -> Made
         ensures { λ r. ⌜ outcome r (now (table .exit)) (now (text .entry)) ≡ formatMade c (now (table .entry)) (now (text .entry)) self (now (prefixes .entry)) (now (suffixes .entry)) (now (nests .entry)) ⌝ }
     {
-        let affixes = prefixes.len();
-        if !sizes_right(affixes, suffixes.len(), nests.len()) {
-            return Made::Refused(Why::Sizes);
+        if sizes_right(prefixes.len(), suffixes.len(), nests.len()) {
+            return within(c, table, text, self, prefixes, suffixes, nests);
         }
-        let body = self.body;
-        let amount = self.amount;
-        let present = operands(c, self, prefixes, suffixes);
-        let right = build::nest_right(amount, self.way);
-        let asked = c.ask(
-            table.len(),
-            text.len(),
-            Asks {
-                present: present,
-                amount: right,
-                text: true,
-                nodes: least(affixes),
-                bytes: 0,
-            },
-        );
-        if let Asked::Denied(why) = asked {
-            return Made::Refused(why);
-        }
-        if affixes == 0 {
-            return Made::Node(c, body);
-        }
-        placed(c, table, text, self, prefixes, suffixes, nests)
+        Made::Refused(Why::Sizes)
     }
 }

@@ -14,7 +14,7 @@ slice-aggregate-head : tie.Need-slice-aggregate-head
 slice-aggregate-head c = sym (length-take-le (c .before .before .before .before .before .before .before .args .split) (c .before .before .before .before .before .before .before .args .prefixes .now) (let pre = c .before .before .before .before .before .before .before .pre .2 .some in let even = c .before .before .before .before .before .before .before .pre .2 .behind in let flags = c .before .before .before .before .before .before .before .pre .2 .flags in omega arith))
 
 head-requires : tie.Need-head-requires
-head-requires c κs = let a = split-asks₁ (c .before .before .before .before .before .before .before .pre .0) (c .before .before .before .before .before .before .before .pre .1) (c .before .before .before .before .before .before .before .args .nests .now) (c .before .before .before .before .before .before .before .args .split)  in (c .before .before .before .before .before .before .before .pre .0, a .1, a .0)
+head-requires c κs = let a = split-asks₁ (c .before .before .before .before .before .before .before .pre .0) (c .before .before .before .before .before .before .before .pre .1) (c .before .before .before .before .before .before .before .args .nests .now) (c .before .before .before .before .before .before .before .args .split) in (c .before .before .before .before .before .before .before .pre .0, a .1, a .0)
 
 enum-known-first : tie.Need-enum-known-first
 enum-known-first c = search needs

@@ -1,86 +1,69 @@
+-- `placed`: built on a table of its own, then laid over the lent one.
 use borrow.Author.Needs.{needs}
+use mathlib.Core.Path.{_≡_, refl, sym, ap, _∙_}
+use native.Mathlib.Omega.{arith}
+use Prim.Native.Nat.{ℕ, _+_, _-_, _*_, _≤_, _<_}
+use lib.ListN.{length}
+use Rattle.block.proofs.Places.{own-ready, placed-stop, placed-short, placed-copies, placed-last}
 use Rattle.block.proofs.placed.Statement.{statement}
 use Rattle.block.proofs.placed.Tie as tie
-use Rattle.block.proofs.placed.Reads as reads
-use Rattle.block.proofs.placed.Lts as lts
-use Rattle.block.proofs.copy_words.Reads as copy-words-reads
-use Rattle.block.proofs.layouts.Reads as layouts-reads
 
--- src/lib.rt:278:16
 cast-used : tie.Need-cast-used
 cast-used c = search needs
 
--- src/lib.rt:278:16
 mul-used : tie.Need-mul-used
 mul-used c = search needs
 
--- src/lib.rt:279:32
 slice-aggregate-copy-words : tie.Need-slice-aggregate-copy-words
 slice-aggregate-copy-words c = search needs
 
--- src/lib.rt:279:5
 copy-words-requires : tie.Need-copy-words-requires
 copy-words-requires c κs = search needs
 
--- src/lib.rt:280:27
 slice-aggregate-layouts : tie.Need-slice-aggregate-layouts
 slice-aggregate-layouts c = search needs
 
--- src/lib.rt:280:9
 layouts-requires : tie.Need-layouts-requires
-layouts-requires c κs = search needs
+layouts-requires c κs = (own-ready (c .before .before .before .before .before .before .before .before .before .before .before .pre .0) (c .before .before .before .before .before .before .before .before .before .before .before .pre .1) (c .before .before .before .before .before .before .before .before .before .before .before .pre .2) (c .before .before .copy-words .ensures), c .before .before .before .before .before .before .before .before .before .before .before .pre .1)
 
--- src/lib.rt:281:20
 enum-known-made : tie.Need-enum-known-made
 enum-known-made c = search needs
 
--- src/lib.rt:282:9
 enum-told : tie.Need-enum-told
 enum-told c = search needs
 
--- src/lib.rt:282:9
 same-length : tie.Need-same-length
 same-length c = search needs
 
--- src/lib.rt:282:9
 returns : tie.Need-returns
-returns c = ?
+returns c = placed-stop (c .before .before .before .before .before .before .before .before .before .before .before .before .before .before .before .pre .0) (c .before .before .before .before .before .before .before .before .before .before .before .before .before .before .before .pre .1) (c .before .before .before .before .before .before .before .before .before .before .before .before .before .before .before .pre .2) (c .before .before .before .before .before .before .copy-words .ensures) (c .before .before .before .layouts .ensures) (c .enum-told .given .1)
 
--- src/lib.rt:284:17
 cast-nodes : tie.Need-cast-nodes
 cast-nodes c = search needs
 
--- src/lib.rt:286:9
 same-length-2 : tie.Need-same-length-2
 same-length-2 c = search needs
 
--- src/lib.rt:286:9
 returns-2 : tie.Need-returns-2
-returns-2 c = ?
+returns-2 c = placed-short (c .before .before .before .before .before .before .before .before .before .before .before .before .before .before .before .before .before .before .pre .0) (c .before .before .before .before .before .before .before .before .before .before .before .before .before .before .before .before .before .before .pre .1) (c .before .before .before .before .before .before .before .before .before .before .before .before .before .before .before .before .before .before .pre .2) (c .before .before .before .before .before .before .before .before .before .copy-words .ensures) (c .before .before .before .before .before .before .layouts .ensures) (c .before .before .before .made .given .1) (c .if1 .taken)
 
--- src/lib.rt:288:16
 slice-aggregate-copy-words-2 : tie.Need-slice-aggregate-copy-words-2
 slice-aggregate-copy-words-2 c = search needs
 
--- src/lib.rt:288:28
 mul-copy-words : tie.Need-mul-copy-words
 mul-copy-words c = search needs
 
--- src/lib.rt:288:28
 sub-copy-words : tie.Need-sub-copy-words
-sub-copy-words c = ?
+sub-copy-words c = placed-copies (c .before .before .before .before .before .before .before .before .before .before .before .before .before .before .before .before .before .before .before .pre .0) (c .before .before .before .before .before .before .before .before .before .before .before .before .before .before .before .before .before .before .before .pre .1) (c .before .before .before .before .before .before .before .before .before .before .before .before .before .before .before .before .before .before .before .pre .2) (c .before .before .before .before .before .before .before .before .before .before .copy-words .ensures) (c .before .before .before .before .before .before .before .layouts .ensures) (c .before .before .before .before .made .given .1) (c .before .if1 .left) .0
 
--- src/lib.rt:288:5
 copy-words-requires-2 : tie.Need-copy-words-requires-2
-copy-words-requires-2 c κs = ?
+copy-words-requires-2 c κs = let x = placed-copies (c .before .before .before .before .before .before .before .before .before .before .before .before .before .before .before .before .before .before .before .before .pre .0) (c .before .before .before .before .before .before .before .before .before .before .before .before .before .before .before .before .before .before .before .before .pre .1) (c .before .before .before .before .before .before .before .before .before .before .before .before .before .before .before .before .before .before .before .before .pre .2) (c .before .before .before .before .before .before .before .before .before .before .before .copy-words .ensures) (c .before .before .before .before .before .before .before .before .layouts .ensures) (c .before .before .before .before .before .made .given .1) (c .before .before .if1 .left) in (omega arith, omega arith)
 
--- src/lib.rt:273:1
 same-length-3 : tie.Need-same-length-3
 same-length-3 c = search needs
 
--- src/lib.rt:273:1
 returns-3 : tie.Need-returns-3
-returns-3 c = ?
+returns-3 c = placed-last (c .before .before .before .before .before .before .before .before .before .before .before .before .before .before .before .before .before .before .before .before .before .before .before .pre .0) (c .before .before .before .before .before .before .before .before .before .before .before .before .before .before .before .before .before .before .before .before .before .before .before .pre .1) (c .before .before .before .before .before .before .before .before .before .before .before .before .before .before .before .before .before .before .before .before .before .before .before .pre .2) (c .before .before .before .before .before .before .before .before .before .before .before .before .before .before .copy-words .ensures) (c .before .before .before .before .before .before .before .before .before .before .before .layouts .ensures) (c .before .before .before .before .before .before .before .before .made .given .1) (c .before .before .before .before .before .if1 .left) (c .before .before .copy-words2 .ensures)
 
 pub placed-spec : {M : Type 1} → statement M
 placed-spec =

@@ -18,7 +18,7 @@ abbrev μ-loop : tie.MeasureT-loop
 μ-loop table₀ text block prefixes nests c₀ n₀ i₀ table c n i = i
 
 loop-holds : tie.Need-loop-holds Inv-loop μ-loop
-loop-holds c = (omega arith, wrap-start (c .before .before .before .before .pre .0) (c .before .before .before .before .pre .1) (c .before .before .before .before .args .n) (c .before .before .before .before .pre .2) (c .before .before .before .before .args .prefixes .now) (c .before .before .before .before .args .nests .now) (c .before .before .before .before .pre .3) (c .before .before .before .before .pre .4) )
+loop-holds c = (omega arith, wrap-start (c .before .before .before .before .pre .0) (c .before .before .before .before .pre .1) (c .before .before .before .before .args .n) (c .before .before .before .before .pre .2) (c .before .before .before .before .args .prefixes .now) (c .before .before .before .before .args .nests .now) (c .before .before .before .before .pre .3) (c .before .before .before .before .pre .4))
 
 sub-i : tie.Need-sub-i Inv-loop μ-loop
 sub-i c = omega (arith, c .loop-test .taken)
@@ -33,7 +33,7 @@ shared-slice-read-wrap : tie.Need-shared-slice-read-wrap Inv-loop μ-loop
 shared-slice-read-wrap c = omega (arith, c .before .before .before .loop-test .taken, c .before .before .before .before .loop .inv .0, c .before .before .before .before .before .before .before .before .before .pre .4)
 
 wrap-requires : tie.Need-wrap-requires Inv-loop μ-loop
-wrap-requires c κs = wrap-asks (c .before .before .before .before .before .before .before .before .before .pre .0) (c .before .before .before .before .before .before .before .before .before .pre .1) (c .before .before .before .before .before .before .before .before .before .args .n) (c .before .before .before .before .before .before .before .before .before .pre .2) (c .before .before .before .before .before .before .before .before .before .args .prefixes .now) (c .before .before .before .before .before .before .before .before .before .args .nests .now) (c .before .before .before .before .before .before .before .before .before .pre .3) (c .before .before .before .before .before .before .before .before .before .pre .4) (c .before .before .before .before .loop .i - 1) (omega (arith, c .before .before .before .loop-test .taken, c .before .before .before .before .loop .inv .0)) (wrap-turn (c .before .before .before .before .before .before .before .before .before .args .c) (c .before .before .before .before .before .before .before .before .before .args .table .now) (c .before .before .before .before .before .before .before .before .before .args .text .now) (c .before .before .before .before .before .before .before .before .before .args .block) (c .before .before .before .before .before .before .before .before .before .args .n) (c .before .before .before .before .before .before .before .before .before .args .prefixes .now) (c .before .before .before .before .before .before .before .before .before .args .nests .now) (c .before .before .before .before .loop .i) (c .before .before .before .loop-test .taken) (c .before .before .before .before .loop .inv .1)) 
+wrap-requires c κs = wrap-asks (c .before .before .before .before .before .before .before .before .before .pre .0) (c .before .before .before .before .before .before .before .before .before .pre .1) (c .before .before .before .before .before .before .before .before .before .args .n) (c .before .before .before .before .before .before .before .before .before .pre .2) (c .before .before .before .before .before .before .before .before .before .args .prefixes .now) (c .before .before .before .before .before .before .before .before .before .args .nests .now) (c .before .before .before .before .before .before .before .before .before .pre .3) (c .before .before .before .before .before .before .before .before .before .pre .4) (c .before .before .before .before .loop .i - 1) (omega (arith, c .before .before .before .loop-test .taken, c .before .before .before .before .loop .inv .0)) (wrap-turn (c .before .before .before .before .before .before .before .before .before .args .c) (c .before .before .before .before .before .before .before .before .before .args .table .now) (c .before .before .before .before .before .before .before .before .before .args .text .now) (c .before .before .before .before .before .before .before .before .before .args .block) (c .before .before .before .before .before .before .before .before .before .args .n) (c .before .before .before .before .before .before .before .before .before .args .prefixes .now) (c .before .before .before .before .before .before .before .before .before .args .nests .now) (c .before .before .before .before .loop .i) (c .before .before .before .loop-test .taken) (c .before .before .before .before .loop .inv .1))
 
 enum-known-made : tie.Need-enum-known-made Inv-loop μ-loop
 enum-known-made c = search needs
