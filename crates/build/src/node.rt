@@ -104,7 +104,7 @@ impl Counts {
         ensures { λ r. ⌜ outcome r (now (table .exit)) (now (text .exit)) ≡ textMade self (now (table .entry)) (now (text .entry)) (now (bytes .entry)) (columns .0) ⌝ }
     {
         let size = bytes.len();
-        let right = columns_right(bytes, columns.0);
+        let right = columns_right(bytes, columns);
         let asked = self.ask(
             table.len(),
             text.len(),

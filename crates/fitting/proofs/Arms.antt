@@ -1,24 +1,19 @@
 -- An arm of a visit of the fit test, by the node's kind.
 -- Assumes nothing.
-use mathlib.Core.Path.{_≡_, refl}
-use Prim.Native.Nat.{ℕ, zero, suc, _+_, _*_, _≤_, _<_}
+use mathlib.Core.Path.{_≡_}
+use Prim.Native.Nat.{ℕ, _+_, _*_, _≤_, _<_}
 use mathlib.Core.Logic.{⊎-elim}
 use mathlib.Core.List.{List, [], _∷_, _++_}
 use types.Run.{OneOf}
 use lib.ListN.{getD}
 use borrow.Author.Tests.{le-leb, lt-leb}
-use Rattle.table.specs.Node.{fail, nodeAt, nodeOf}
-use Rattle.rules.specs.Layout.{flat}
+use Rattle.table.specs.Node.{fail, nodeAt}
 use Rattle.machine.specs.Fit.{Item, walk, item, look, byMode}
 use Rattle.waiting.specs.Stack.{modeOf, itemsOf, FitPushed}
-use Rattle.waiting.proofs.Laws.{same-refl}
+use Rattle.waiting.proofs.Laws.{flat-mode, same-refl}
 use Rattle.fitting.specs.Fitting.{Stepped}
 use Rattle.fitting.specs.declared.Step.the-variants.{Down, Done, Fits, Wide}
-use Rattle.fitting.proofs.Nodes.{node-is}
-
-pub flat-mode : (m : ℕ) → (m ≡ 0 → ⊥) → modeOf m ≡ flat
-flat-mode zero h = absurd (h refl)
-flat-mode (suc m) h = refl
+use Rattle.table.proofs.Nodes.{node-is}
 
 module _ (table : List ℕ) (W n m k c : ℕ) (w : List ℕ) where
   pub look-nil : getD table (n * 4) 0 ≡ 0 → Stepped table W n m k c w (Done (record { 0 = c })) w

@@ -6,14 +6,14 @@ use mathlib.Core.List.{List, [], _∷_, _++_, append-nil}
 use native.Mathlib.Omega.{arith}
 use lib.ListN.{getD, length}
 use Rattle.table.specs.Node.{nodeAt}
-use Rattle.table.specs.Valid.{Sound, Valid}
+use Rattle.table.specs.Valid.{Sound}
 use Rattle.rules.specs.Layout.{flat, broken}
 use Rattle.machine.specs.Waiting.{Entry, node}
 use Rattle.machine.specs.Fit.{Item, item, Verdict, fits, wide, due, Walked, walk, say, look, fit, reread}
 use Rattle.machine.specs.Well.{Nodes, FitStacked}
 use Rattle.machine.proofs.Kept.{FitNext, walked-next}
-use Rattle.waiting.specs.Stack.{modeOf, stackOf, itemsOf, Same, Nearest, entryAt}
-use Rattle.waiting.proofs.Laws.{same-refl, same-trans, same-less, stack-same, stack-top, length-items, from-reread, from-nodes}
+use Rattle.waiting.specs.Stack.{modeOf, stackOf, itemsOf, Same, Nearest}
+use Rattle.waiting.proofs.Laws.{same-refl, same-trans, same-less, stack-same, node-top, length-items, from-reread, from-nodes}
 use Rattle.fitting.specs.Fitting.{Stepped, stepped, Fitting, Fitted, verdictOf}
 use Rattle.fitting.specs.declared.Step.{Step}
 use Rattle.fitting.specs.declared.Step.the-variants.{Down, Done, Fits, Wide}
@@ -38,31 +38,19 @@ module _ (T : List ℕ) (W x d c left : ℕ) where
 
   -- w₀, w: the work area where the loop began and now; the nodes `is` are to be walked, then those of the first a entries; a column; steps left
   pub record Walking (w₀ w : List ℕ) (is : List Item) (a col s : ℕ) : Type 0 where
-    pub N : ℕ
-    pub valid : Valid T 65536 N
-    pub words : N * 4 ≤ length T
-    pub small : N ≤ 1024
-    pub width : W ≤ 65536
-    pub area : 16384 ≤ length w
-    pub deep : d ≤ 1024
+    pub start : Fitting T w₀ W x d c
     pub at : a ≤ d
     pub same : Same 1024 w₀ w
     pub long : length w ≡ length w₀
-    pub nodes : Nodes N (stackOf a w)
-    pub stack : FitStacked N is
+    pub nodes : Nodes (start .N) (stackOf a w)
+    pub stack : FitStacked (start .N) is
     pub column : col ≤ 65536
     pub said : fit T W s (is ++ reread (stackOf a w)) col ≡ whole w
 
   pub walk-start : (w : List ℕ) → Fitting T w W x d c → Walking w w (hand w x 1 0) d c left
   walk-start w f =
       record {
-        N = f .N;
-        valid = f .valid;
-        words = f .words;
-        small = f .small;
-        width = f .width;
-        area = f .area;
-        deep = f .deep;
+        start = f;
         at = omega arith;
         same = same-refl 1024 w;
         long = refl;
@@ -78,17 +66,17 @@ module _ (T : List ℕ) (W x d c left : ℕ) where
 
   -- ---- a node in hand
   module _ (w₀ w : List ℕ) (n m k a col S : ℕ) (h : Walking w₀ w (hand w n m k) a col S) where
-    node-in : n < h .N
+    node-in : n < h .start .N
     node-in = omega (arith, h .stack .0)
 
     pub node-sound : Sound 65536 n (nodeAt T n)
-    node-sound = h .valid n node-in
+    node-sound = h .start .valid n node-in
 
     pub node-words : n * 4 + 4 ≤ length T
-    node-words = omega (arith, node-in, h .words)
+    node-words = omega (arith, node-in, h .start .words)
 
     pub count-small : k ≤ 1023
-    count-small = omega (arith, fit-length (h .N) (hand w n m k) (h .stack), length-items m k w, h .small)
+    count-small = omega (arith, fit-length (h .start .N) (hand w n m k) (h .stack), length-items m k w, h .start .small)
 
     pub walk-due : S ≡ 0 → due n ≡ whole w
     unfolding fit
@@ -105,26 +93,20 @@ module _ (T : List ℕ) (W x d c left : ℕ) where
       after v e = rw e (rw left′ at (h .said))
 
       -- the visit keeps the height
-      next : FitNext (h .N) (look W (nodeAt T n) (modeOf m) (itemsOf m k w) col (S - 1))
-      next = walked-next (h .N) W 65536 n (nodeAt T n) (modeOf m) (itemsOf m k w) col (S - 1) (h .width) (h .column) node-sound (h .stack)
+      next : FitNext (h .start .N) (look W (nodeAt T n) (modeOf m) (itemsOf m k w) col (S - 1))
+      next = walked-next (h .start .N) W 65536 n (nodeAt T n) (modeOf m) (itemsOf m k w) col (S - 1) (h .start .width) (h .column) node-sound (h .stack)
 
       module _ (w′ : List ℕ) (r : Step) (p : Stepped T W n m k col w r w′) (e : length w′ ≡ length w) where
         kept-stack : (j : ℕ) → j ≤ d → stackOf j w′ ≡ stackOf j w
-        kept-stack j le = stack-same j w w′ (same-less j 1024 w w′ (omega (arith, h .deep)) (p .same))
+        kept-stack j le = stack-same j w w′ (same-less j 1024 w w′ (omega (arith, h .start .deep)) (p .same))
 
         -- on to the nodes is′ at column c′
         walk-on : (is′ : List Item) (c′ : ℕ) → stepped r m k col w′ [] (S - 1) ≡ walk (is′ ++ []) c′ → stepped r m k col w′ (reread (stackOf a w)) (S - 1) ≡ walk (is′ ++ reread (stackOf a w)) c′ → Walking w₀ w′ is′ a c′ (S - 1)
         walk-on is′ c′ alone all =
-            let f : FitNext (h .N) (walk is′ c′) =
-            subst (λ (l : List Item). FitNext (h .N) (walk l c′)) (append-nil is′) (subst (λ (v : Walked). FitNext (h .N) v) (sym (p .said [] (S - 1)) ∙ alone) (rw append-nil next)) in
+            let f : FitNext (h .start .N) (walk is′ c′) =
+            subst (λ (l : List Item). FitNext (h .start .N) (walk l c′)) (append-nil is′) (subst (λ (v : Walked). FitNext (h .start .N) v) (sym (p .said [] (S - 1)) ∙ alone) (rw append-nil next)) in
             record {
-              N = h .N;
-              valid = h .valid;
-              words = h .words;
-              small = h .small;
-              width = h .width;
-              area = omega (arith, h .area);
-              deep = h .deep;
+              start = h .start;
               at = h .at;
               same = same-trans 1024 w₀ w w′ (h .same) (p .same);
               long = e ∙ h .long;
@@ -170,19 +152,12 @@ module _ (T : List ℕ) (W x d c left : ℕ) where
   pub walk-next : (w₀ w : List ℕ) (m k a col s r : ℕ) → k ≡ 0 → Walking w₀ w (itemsOf m k w) a col s → Nearest w a 0 r → (r ≡ 0 → ⊥) → Walking w₀ w (hand w (getD w ((r - 1) * 4) 0) 0 k) (r - 1) col s
   walk-next w₀ w m k a col s r z h f ne =
       let lt : 0 < r = omega arith in
-      let t : getD w ((r - 1) * 4 + 3) 0 ≡ 0 = f .tagged lt in
-      let top : stackOf r w ≡ node (getD w ((r - 1) * 4) 0) (getD w ((r - 1) * 4 + 1) 0) (modeOf (getD w ((r - 1) * 4 + 2) 0)) ∷ stackOf (r - 1) w = stack-top w r lt ∙ rw t in
+      let top = node-top w r lt (f .tagged lt) in
       let q : reread (stackOf a w) ≡ item (getD w ((r - 1) * 4) 0) broken ∷ reread (stackOf (r - 1) w) = sym (from-reread (stackOf a w)) ∙ ap reread (f .found ∙ top) in
-      let g : Nodes (h .N) (node (getD w ((r - 1) * 4) 0) (getD w ((r - 1) * 4 + 1) 0) (modeOf (getD w ((r - 1) * 4 + 2) 0)) ∷ stackOf (r - 1) w) =
-      subst (λ (l : List Entry). Nodes (h .N) l) (f .found ∙ top) (from-nodes (h .N) (stackOf a w) (h .nodes)) in
+      let g : Nodes (h .start .N) (node (getD w ((r - 1) * 4) 0) (getD w ((r - 1) * 4 + 1) 0) (modeOf (getD w ((r - 1) * 4 + 2) 0)) ∷ stackOf (r - 1) w) =
+      subst (λ (l : List Entry). Nodes (h .start .N) l) (f .found ∙ top) (from-nodes (h .start .N) (stackOf a w) (h .nodes)) in
       record {
-        N = h .N;
-        valid = h .valid;
-        words = h .words;
-        small = h .small;
-        width = h .width;
-        area = h .area;
-        deep = h .deep;
+        start = h .start;
         at = omega (arith, f .within, h .at);
         same = h .same;
         long = h .long;

@@ -1,7 +1,7 @@
 -- What the fit test's functions promise, over the step function's `look` and `fit`.
 use mathlib.Core.Path.{_≡_}
-use Prim.Native.Nat.{ℕ, _+_, _*_, _≤_, _<_}
-use mathlib.Core.List.{List, [], _∷_, _++_}
+use Prim.Native.Nat.{ℕ, _*_, _≤_, _<_}
+use mathlib.Core.List.{List, _∷_, _++_}
 use lib.ListN.{length}
 use Rattle.table.specs.Node.{nodeAt}
 use Rattle.table.specs.Valid.{Valid}

@@ -5,8 +5,7 @@
 use table::Column;
 use table::NodeNo;
 use waiting::Mode;
-ghost use mathlib.Core.Path.{_≡_};
-ghost use Prim.Native.Nat.{_+_, _*_, _≤_, _<_};
+ghost use Prim.Native.Nat.{_+_, _*_, _≤_};
 ghost use lib.ListN.{length};
 ghost use Rattle.table.specs.Node.{nodeAt};
 ghost use Rattle.table.specs.Valid.{Sound};

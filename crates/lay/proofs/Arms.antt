@@ -1,34 +1,32 @@
 -- What each kind's function leaves is where the step function leads.
 -- Assumes nothing.
-use mathlib.Core.Path.{_≡_, refl, sym, ap, _∙_, subst}
-use Prim.Native.Nat.{ℕ, zero, suc, _+_, _-_, _*_, _/_, _≤_, _<_}
+use mathlib.Core.Path.{_≡_, refl, sym, ap, _∙_}
+use Prim.Native.Nat.{ℕ, zero, suc, _+_, _-_, _*_, _≤_, _<_}
 use native.Mathlib.Omega.{arith}
-use native.Mathlib.Numerals.{add-one}
 use native.Mathlib.Nat.{zero-add, suc-add}
 use mathlib.Core.Bool.{Bool, true, false, _||_}
-use mathlib.Core.List.{List, [], _∷_, _++_}
-use lib.ListN.{getD, length, take, drop, length-take, length-append, length-replicate, replicate}
+use mathlib.Core.List.{List, _∷_, _++_}
+use lib.ListN.{getD, length, take, length-append, length-replicate, replicate}
 use lib.Seq.{length-take-le, take-take}
-use lib.Dec.{leb, ltb}
+use lib.Dec.{ltb}
 use borrow.Author.Tests.{le-leb, lt-leb, lt-ltb, le-ltb}
 use Rattle.buffer.specs.Run as run
 use Rattle.buffer.proofs.Put.{take-put}
 use Rattle.table.specs.Node.{wayOf}
-use Rattle.rules.specs.Layout.{Limits, Page, Mode, flat, broken, nested, fed, wrote, marked}
-use Rattle.machine.specs.Waiting.{Saved, Entry, node, trial, mark, back, nextIndent}
-use Rattle.machine.specs.Fit.{fit, item, reread}
-use Rattle.machine.specs.Turn.{Turned, on, stop, put, event, giveUp, grouped, decided}
+use Rattle.rules.specs.Layout.{Page, nested}
+use Rattle.machine.specs.Waiting.{Entry, node, trial, mark, back, nextIndent}
+use Rattle.machine.specs.Turn.{Turned, on, put, event, giveUp, grouped}
 use Rattle.machine.specs.Well.{Stacked}
-use Rattle.waiting.specs.Stack.{modeOf, flagOf, savedOf, savedAt, entryAt, stackOf, from, Nearest, HandAt, SavedAt}
+use Rattle.waiting.specs.Stack.{modeOf, flagOf, savedOf, savedAt, entryAt, stackOf, Nearest, HandAt, SavedAt}
 use Rattle.waiting.specs.declared.Hand.{Hand}
 use Rattle.waiting.specs.declared.Saved.{Saved as SavedWords}
-use Rattle.waiting.proofs.Laws.{stack-top, from-indent, from-giveUp}
-use Rattle.fitting.specs.Fitting.{Fitted, verdictOf}
+use Rattle.waiting.proofs.Laws.{flat-mode, node-top, trial-top, from-indent, from-giveUp}
+use Rattle.fitting.specs.Fitting.{Fitted}
 use Rattle.fitting.specs.declared.Fit.{Fit}
 use Rattle.fitting.specs.declared.Fit.the-variants.{Yes, No, Due}
 use Rattle.table.specs.declared.NodeNo.{NodeNo}
-use Rattle.lay.specs.State.{handOf, top, restoredOf, eventsOf, pageOf}
-use Rattle.lay.specs.Turning.{turnedOf, Turning, Kept, Restoring, Wrote, Annotated, Noted}
+use Rattle.lay.specs.State.{handOf, restoredOf, pageOf}
+use Rattle.lay.specs.Turning.{Turning, Kept, Restoring, Wrote, Annotated, Noted}
 use Rattle.lay.specs.declared.State.{State}
 use Rattle.lay.specs.declared.Turn.the-variants.{Go, Done, Stop}
 use Rattle.lay.proofs.Events.{length-events, events-front}
@@ -77,9 +75,6 @@ over-kept (suc o) W c le = refl
 
 -- ---- a Hardline's indentation
 
-node-on-top : (w : List ℕ) (r : ℕ) → 0 < r → getD w ((r - 1) * 4 + 3) 0 ≡ 0 → stackOf r w ≡ node (getD w ((r - 1) * 4) 0) (getD w ((r - 1) * 4 + 1) 0) (modeOf (getD w ((r - 1) * 4 + 2) 0)) ∷ stackOf (r - 1) w
-node-on-top w r lt t = stack-top w r lt ∙ rw t
-
 pub indent-own : (w : List ℕ) (d r own : ℕ) → Nearest w d 0 r → r ≡ 0 → own ≡ nextIndent own (stackOf d w)
 indent-own w d r own f e = sym (sym (from-indent own (stackOf d w)) ∙ ap (nextIndent own) (f .found) ∙ rw e)
 
@@ -87,7 +82,7 @@ pub indent-next : (w : List ℕ) (d r own : ℕ) → Nearest w d 0 r → (r ≡ 
 indent-next w d r own f ne =
     let lt : 0 < r = omega arith in
     let e : r * 4 - 3 ≡ (r - 1) * 4 + 1 = omega arith in
-    rw e (sym (sym (from-indent own (stackOf d w)) ∙ ap (nextIndent own) (f .found ∙ node-on-top w r lt (f .tagged lt))))
+    rw e (sym (sym (from-indent own (stackOf d w)) ∙ ap (nextIndent own) (f .found ∙ node-top w r lt (f .tagged lt))))
 
 -- ---- what waits
 
@@ -105,10 +100,6 @@ union-kept s w w′ h a b i m eh ew =
     record { turning = λ out ev used marks. record { same = rw (eh, ew, length-take-le (s .used) out used, length-events (s .marks) ev); used = used; marks = marks } }
 
 -- ---- a group
-
-flat-mode : (m : ℕ) → (m ≡ 0 → ⊥) → modeOf m ≡ flat
-flat-mode zero h = absurd (h refl)
-flat-mode (suc m) h = refl
 
 pub group-flat : (T w : List ℕ) (W a i m : ℕ) (s : State) (h : Hand) → (m ≡ 0 → ⊥) → h ≡ handOf a i m → Kept s (Go h s) w (λ p. grouped T W (modeOf m) a i p (s .left) (flagOf (s .over)) (stackOf (s .depth) w))
 group-flat T w W a i m s h ne eh = record { turning = λ out ev used marks. record { same = rw (eh, flat-mode m ne); used = used; marks = marks } }
@@ -132,9 +123,6 @@ module _ (T w w′ : List ℕ) (W a i m : ℕ) (s : State) (v : Fit) (broken-now
 
 -- ---- a trial given up
 
-trial-on-top : (w : List ℕ) (r : ℕ) → 0 < r → getD w ((r - 1) * 4 + 3) 0 ≡ 1 → stackOf r w ≡ trial (getD w ((r - 1) * 4) 0) (getD w ((r - 1) * 4 + 1) 0) (modeOf (getD w ((r - 1) * 4 + 2) 0)) (savedAt w (r - 1)) ∷ stackOf (r - 1) w
-trial-on-top w r lt t = stack-top w r lt ∙ rw t
-
 -- entries that are well are well further down, over no more bytes and events
 stacked-tail : (N b k : ℕ) (e : Entry) (w : List Entry) → Stacked N b k (e ∷ w) → (b′ : ℕ) × (k′ : ℕ) × (b′ ≤ b) × (k′ ≤ k) × Stacked N b′ k′ w
 stacked-tail N b k (node n i m) w h = (b, k, omega arith, omega arith, h .2)
@@ -154,7 +142,7 @@ saved-counts : (N b k d r : ℕ) (w : List ℕ) → r ≤ d → 0 < r → getD w
 saved-counts N b k d r w le lt t h =
     let e : d ≡ (d - r) + r = omega arith in
     let g = stacked-down N b k (d - r) r w (rw e at h) in
-    let h₁ = rw (trial-on-top w r lt t) at (g .4) in
+    let h₁ = rw (trial-top w r lt t) at (g .4) in
     (omega (arith, h₁ .3, g .2), omega (arith, h₁ .4, g .3))
 
 -- the state and the node that the entry at height d gives back
@@ -188,7 +176,7 @@ fail-some s w r h v q f ne ph pv eq =
           let le = saved-counts N (s .used) (s .marks) (s .depth) r w (f .within) lt (f .tagged lt) st in
           let g = give-back s w out ev (r - 1) h v q used marks (le .0) (le .1) ph pv eq in
           record {
-            same = g .same ∙ sym (sym (from-giveUp (pageOf s out ev) (s .left) (stackOf (s .depth) w)) ∙ ap (giveUp (pageOf s out ev) (s .left)) (f .found ∙ trial-on-top w r lt (f .tagged lt)));
+            same = g .same ∙ sym (sym (from-giveUp (pageOf s out ev) (s .left) (stackOf (s .depth) w)) ∙ ap (giveUp (pageOf s out ev) (s .left)) (f .found ∙ trial-top w r lt (f .tagged lt)));
             used = g .used;
             marks = g .marks;
           };

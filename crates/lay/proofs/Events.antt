@@ -1,14 +1,13 @@
 -- Event records in a slice of words: the first n, and one more.
 -- Assumes nothing.
 use mathlib.Core.Path.{_≡_, refl, sym, ap, _∙_}
-use Prim.Native.Nat.{ℕ, zero, suc, _+_, _*_, _/_, _≤_, _<_}
+use Prim.Native.Nat.{ℕ, zero, suc, _+_, _*_, _≤_, _<_}
 use native.Mathlib.Omega.{arith}
 use native.Mathlib.Decide.{decLe}
 use native.Mathlib.Numerals.{add-one}
 use mathlib.Core.List.{List, [], _∷_, _++_}
 use lib.ListN.{getD, length, set, take, length-append, length-set}
 use lib.Seq.{getD-set-same, getD-set-other, take-append-le, take-length}
-use Rattle.rules.specs.Layout.{Event}
 use Rattle.lay.specs.State.{eventAt, eventsOf}
 
 pub length-events : (n : ℕ) (ev : List ℕ) → length (eventsOf n ev) ≡ n
@@ -31,7 +30,7 @@ events-front (suc n) k ev le = by (λ l. events-front n k ev l) (decLe k n)
         rw (← f) (take-length (eventsOf (suc n) ev)) ∙ ap (λ (j : ℕ). eventsOf j ev) (sym e)
 
 -- records depend on their own words
-pub events-same : (n : ℕ) (ev ev′ : List ℕ) → ((i : ℕ) → i < n * 3 → getD ev′ i 0 ≡ getD ev i 0) → eventsOf n ev′ ≡ eventsOf n ev
+events-same : (n : ℕ) (ev ev′ : List ℕ) → ((i : ℕ) → i < n * 3 → getD ev′ i 0 ≡ getD ev i 0) → eventsOf n ev′ ≡ eventsOf n ev
 unfolding eventsOf
 events-same zero ev ev′ h = refl
 events-same (suc n) ev ev′ h =

@@ -1,11 +1,11 @@
 -- What the functions of a turn promise: where they lead is where the step function leads.
 use mathlib.Core.Path.{_≡_}
-use Prim.Native.Nat.{ℕ, zero, suc, _+_, _*_, _/_, _≤_}
+use Prim.Native.Nat.{ℕ, _+_, _*_, _/_, _≤_}
 use mathlib.Core.Bool.{Bool, true}
 use mathlib.Core.List.{List, [], _∷_, _++_}
 use lib.ListN.{length}
 use lib.Dec.{ltb}
-use Rattle.rules.specs.Layout.{Limits, Event, Page}
+use Rattle.rules.specs.Layout.{Limits, Page}
 use Rattle.machine.specs.Waiting.{Entry}
 use Rattle.machine.specs.Turn.{Turned, on, stop}
 use Rattle.machine.specs.Well.{Stacked}

@@ -3,3 +3,4 @@ pub mod Waiting
 pub mod Fit
 pub mod Turn
 pub mod Well
+pub mod Reached

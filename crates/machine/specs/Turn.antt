@@ -8,7 +8,7 @@ use Rattle.table.specs.Pick.{pick}
 use Rattle.table.specs.Node.{Node, nil, append, group, flatAlt, nest, hardline, text, annotated, union, align, fail, nodeAt}
 use Rattle.rules.specs.Layout.{Limits, Page, blank, Mode, flat, broken, Report, taken, wrote, fed, marked, nested}
 use Rattle.machine.specs.Waiting.{Saved, Entry, node, trial, mark, back, nextIndent}
-use Rattle.machine.specs.Fit.{Verdict, fits, wide, due, Item, item, reread, byMode, fit}
+use Rattle.machine.specs.Fit.{Verdict, fits, wide, due, item, reread, byMode, fit}
 
 -- what a run goes by
 pub record Env : Type 0 where

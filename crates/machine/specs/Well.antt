@@ -3,17 +3,17 @@ use Prim.Native.Nat.{ℕ, suc, _+_, _*_, _≤_, _<_}
 use mathlib.Core.List.{List, [], _∷_}
 use lib.ListN.{length}
 use Rattle.rules.specs.Layout.{Limits, Page}
-use Rattle.machine.specs.Waiting.{Saved, Entry, node, trial, mark}
+use Rattle.machine.specs.Waiting.{Entry, node, trial, mark}
 use Rattle.machine.specs.Fit.{Item, item}
 
--- Of N nodes; `bytes` and `events` so far. A number is below N by at least its height; an indentation grows by at most 1,000 as the
--- number falls; what a trial saved is at most what is there.
+-- Of N nodes; `bytes` and `events` so far. A number is below N by at least its height; an indentation starts at most at 65,536 and grows by
+-- at most 1,000 each time that the number falls; what a trial saved is at most what is there.
 abbrev pub Stacked : ℕ → ℕ → ℕ → List Entry → Type 0
 Stacked N bytes events [] = Unit {0}
-Stacked N bytes events (node n i m ∷ w) = (length w + n < N) × (i + 1000 * n ≤ 65536 + 1000 * N) × Stacked N bytes events w
+Stacked N bytes events (node n i m ∷ w) = (length w + n < N) × (i + 1000 * suc n ≤ 65536 + 1000 * N) × Stacked N bytes events w
 Stacked N bytes events (trial b i m s ∷ w) =
     (length w + b < N)
-    × (i + 1000 * b ≤ 65536 + 1000 * N)
+    × (i + 1000 * suc b ≤ 65536 + 1000 * N)
     × (s .column ≤ s .bytes)
     × (s .bytes ≤ bytes)
     × (s .events ≤ events)

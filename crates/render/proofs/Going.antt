@@ -1,7 +1,7 @@
 -- The run: what the loop keeps, and how a turn keeps it.
 -- Assumes nothing.
-use mathlib.Core.Path.{_≡_, refl, sym, ap, _∙_, subst}
-use Prim.Native.Nat.{ℕ, suc, zero, _+_, _-_, _*_, _/_, _≤_, _<_}
+use mathlib.Core.Path.{_≡_, refl, sym, ap, _∙_}
+use Prim.Native.Nat.{ℕ, suc, zero, _+_, _-_, _*_, _≤_, _<_}
 use native.Mathlib.Omega.{arith}
 use mathlib.Core.Bool.{Bool, true, false}
 use mathlib.Core.List.{List, [], _∷_}
@@ -12,9 +12,9 @@ use Rattle.table.specs.Pick.{pick}
 use Rattle.table.specs.Valid.{Valid}
 use Rattle.table.specs.declared.NodeNo.{NodeNo}
 use Rattle.rules.specs.Layout.{Page, Report, marked}
-use Rattle.machine.specs.Waiting.{Saved, Entry, node, trial, mark}
-use Rattle.machine.specs.Turn.{Env, Turned, on, stop, turn, run, layout, laid, ended}
-use Rattle.machine.specs.Well.{Well, Stacked, weight}
+use Rattle.machine.specs.Waiting.{Entry, node, trial, mark}
+use Rattle.machine.specs.Turn.{Env, Turned, on, stop, turn, run, layout, ended}
+use Rattle.machine.specs.Well.{Well, weight}
 use Rattle.machine.proofs.Kept.{Next, turn-next}
 use Rattle.waiting.specs.Stack.{flagOf, stackOf}
 use Rattle.waiting.specs.declared.Hand.{Hand}
@@ -24,16 +24,15 @@ use Rattle.lay.specs.declared.State.{State}
 use Rattle.lay.specs.declared.Turn.{Turn}
 use Rattle.lay.specs.declared.Turn.the-variants.{Go, Done, Stop}
 use Rattle.lay.proofs.Events.{length-events}
-use Rattle.render.specs.Visit.{Ready, envOf}
+use Rattle.render.specs.Visit.{Start, Ready, envOf}
 use Rattle.render.specs.TakeUp.{takeUp, upFrom, TurnedUp}
-use Rattle.render.specs.Best.{Start, Laid}
-use Rattle.render.specs.declared.End.{End}
+use Rattle.render.specs.Best.{Laid}
 
 -- ---- several turns of the step function in one
 
 module _ (E : Env) (N : ℕ) (valid : Valid (E .table) (length (E .str)) N) where
   -- the report x is that of a run from t, which is well, has no more steps left than `left`, and a measure below `most`
-  abbrev pub Reaches : ℕ → ℕ → Report → Turned → Type 0
+  abbrev Reaches : ℕ → ℕ → Report → Turned → Type 0
   Reaches left most x (on p left′ o w) =
       (turns : ℕ) × Well (E .limits) N p w × (left′ ≤ left) × (3 * left′ + weight w < turns) × (x ≡ run E turns p left′ o w) × (3 * left′ + weight w < most)
   Reaches left most x (stop a n left′) = (left′ ≤ left) × (x ≡ ended E a n left′)
@@ -74,7 +73,7 @@ module _ (E : Env) (N : ℕ) (valid : Valid (E .table) (length (E .str)) N) wher
       by false ih t = t
 
   -- a visit, and what is taken up after it
-  pub run-on : (turns : ℕ) (p : Page) (left : ℕ) (o : Bool) (e : Entry) (w : List Entry) → Well (E .limits) N p (e ∷ w) → 3 * left + weight (e ∷ w) < turns → Reaches left (3 * left + weight (e ∷ w)) (run E turns p left o (e ∷ w)) (upFrom (E .limits) (turn E p left o e w))
+  run-on : (turns : ℕ) (p : Page) (left : ℕ) (o : Bool) (e : Entry) (w : List Entry) → Well (E .limits) N p (e ∷ w) → 3 * left + weight (e ∷ w) < turns → Reaches left (3 * left + weight (e ∷ w)) (run E turns p left o (e ∷ w)) (upFrom (E .limits) (turn E p left o e w))
   run-on turns p left o e w q lt = go (turn E p left o e w) (run-turn turns p left o e w q lt)
     where
       go : (t : Turned) → Reaches left (3 * left + weight (e ∷ w)) (run E turns p left o (e ∷ w)) t → Reaches left (3 * left + weight (e ∷ w)) (run E turns p left o (e ∷ w)) (upFrom (E .limits) t)
@@ -86,6 +85,21 @@ module _ (E : Env) (N : ℕ) (valid : Valid (E .table) (length (E .str)) N) wher
 module _ (T tx : List ℕ) (W limit N : ℕ) where
   abbrev E : List ℕ → List ℕ → Env
   E out ev = envOf T tx out ev W limit
+
+  -- only the lengths of the buffers matter
+  start-kept : (out ev w out′ ev′ w′ : List ℕ) → length out′ ≡ length out → length ev′ ≡ length ev → length w′ ≡ length w → Start T tx out ev w W N → Start T tx out′ ev′ w′ W N
+  start-kept out ev w out′ ev′ w′ eo ee ew h =
+      record {
+        valid = h .valid;
+        some = h .some;
+        words = h .words;
+        small = h .small;
+        texts = h .texts;
+        room = omega (arith, h .room);
+        slots = omega (arith, h .slots);
+        area = omega (arith, h .area);
+        width = h .width;
+      }
 
   -- out₀, ev₀, w₀ where the loop began; out, ev, w now; the node in hand and the state
   pub record Going (out₀ ev₀ w₀ out ev w : List ℕ) (h : Hand) (s : State) : Type 0 where
@@ -137,14 +151,7 @@ module _ (T tx : List ℕ) (W limit N : ℕ) where
           let u : length (take (s .used) out) ≡ s .used = length-take-le (s .used) out (g .used) in
           record {
             N = N;
-            valid = g .start .valid;
-            words = g .start .words;
-            small = g .start .small;
-            texts = g .start .texts;
-            room = g .start .room;
-            slots = g .start .slots;
-            area = g .start .area;
-            width = g .start .width;
+            start = g .start;
             used = g .used;
             marks = g .marks;
             column = rw u at (g .well .column);
@@ -166,7 +173,7 @@ module _ (T tx : List ℕ) (W limit N : ℕ) where
             let t = rw e at reach in
             let q = rw e at (p .turning limit) in
             record {
-              start = record { valid = g .start .valid; some = g .start .some; words = g .start .words; small = g .start .small; texts = g .start .texts; room = omega (arith, g .start .room); slots = omega (arith, g .start .slots); area = omega (arith, g .start .area); width = g .start .width };
+              start = start-kept out ev w out′ ev′ w′ eo ee ew (g .start);
               outs = eo ∙ g .outs;
               evs = ee ∙ g .evs;
               works = ew ∙ g .works;

@@ -9,17 +9,17 @@ use lib.ListN.{getD, length, take}
 use lib.Seq.{length-take-le}
 use lib.Dec.{ltb}
 use Rattle.table.specs.declared.NodeNo.{NodeNo}
-use Rattle.rules.specs.Layout.{Limits, Page, marked}
-use Rattle.machine.specs.Waiting.{Saved, Entry, node, trial, mark}
+use Rattle.rules.specs.Layout.{Limits, marked}
+use Rattle.machine.specs.Waiting.{node, mark}
 use Rattle.machine.specs.Turn.{Turned}
 use Rattle.machine.specs.Well.{Stacked}
 use Rattle.machine.proofs.Kept.{stacked-mono}
-use Rattle.waiting.specs.Stack.{modeOf, flagOf, savedAt, entryOf, stackOf, HandAt, SavedAt}
+use Rattle.waiting.specs.Stack.{flagOf, stackOf, HandAt, SavedAt}
 use Rattle.waiting.specs.declared.Hand.{Hand}
 use Rattle.waiting.specs.declared.Saved.{Saved as SavedWords}
-use Rattle.waiting.proofs.Laws.{stack-top}
+use Rattle.waiting.proofs.Laws.{node-top, trial-top, mark-top}
 use Rattle.lay.specs.State.{eventsOf, pageOf, restoredOf}
-use Rattle.lay.specs.Turning.{Turning, Noted}
+use Rattle.lay.specs.Turning.{Noted}
 use Rattle.lay.specs.declared.State.{State}
 use Rattle.lay.specs.declared.Turn.the-variants.{Go, Done, Stop}
 use Rattle.lay.proofs.Events.{length-events}
@@ -43,12 +43,6 @@ pub record Rising (ev₀ w : List ℕ) (s₀ : State) (ev : List ℕ) (s : State
 pub rise-start : (ev w : List ℕ) (s : State) → (s .depth ≤ 1024) × (8192 ≤ length w) × (s .marks * 3 ≤ length ev) × (length ev ≤ 12290) → Rising ev w s ev s
 rise-start ev w s h =
     record { depth = h .0; area = h .1; slots = h .3; marks = h .2; long = refl; used = refl; said = λ L out N e le st. (st, refl) }
-
--- an entry whose tag is neither a node's nor a trial's
-mark-entry : (t n i m : ℕ) (v : Saved) → (t ≡ 0 → ⊥) → (t ≡ 1 → ⊥) → entryOf t n i m v ≡ mark n i
-mark-entry zero n i m v h g = absurd (h refl)
-mark-entry (suc zero) n i m v h g = absurd (g refl)
-mark-entry (suc (suc t)) n i m v h g = refl
 
 flag-set : (o : ℕ) → (o ≡ 0 → ⊥) → flagOf o ≡ true
 flag-set zero h = absurd (h refl)
@@ -89,13 +83,9 @@ module _ (ev₀ w : List ℕ) (s₀ : State) (ev : List ℕ) (s : State) (h : Ri
         record {
           turning = λ L out N e fits st.
               let g = h .said L out N e fits st in
-              let r : stackOf (s .depth) w ≡ node (getD w (d * 4) 0) (getD w (d * 4 + 1) 0) (modeOf (getD w (d * 4 + 2) 0)) ∷ stackOf d w = stack-top w (s .depth) some ∙ rw t in
-              record { same = rw (p .node, p .indent, p .mode) (sym (ap (takeUp L (pageOf s out ev) (s .left) (flagOf (s .over))) r)) ∙ g .1; used = omega (arith, h .used); marks = h .marks };
+              record { same = rw (p .node, p .indent, p .mode) (sym (ap (takeUp L (pageOf s out ev) (s .left) (flagOf (s .over))) (node-top w (s .depth) some t))) ∙ g .1; used = omega (arith, h .used); marks = h .marks };
           empty = λ q e. go-is-not-done c _ q e;
         }
-
-    trial-top : getD w (d * 4 + 3) 0 ≡ 1 → stackOf (s .depth) w ≡ trial (getD w (d * 4) 0) (getD w (d * 4 + 1) 0) (modeOf (getD w (d * 4 + 2) 0)) (savedAt w d) ∷ stackOf d w
-    trial-top t = stack-top w (s .depth) some ∙ rw t
 
     pub rise-give : (c : Hand) (v : SavedWords) (q : State) → getD w (d * 4 + 3) 0 ≡ 1 → (s .over ≡ 0 → ⊥) → HandAt w d c → SavedAt w d v → q ≡ restoredOf (s .left) v d → TakenUp s₀ ev₀ w (Go c q) ev
     unfolding takeUp
@@ -103,9 +93,9 @@ module _ (ev₀ w : List ℕ) (s₀ : State) (ev : List ℕ) (s : State) (h : Ri
         record {
           turning = λ L out N e fits st.
               let g = h .said L out N e fits st in
-              let k = rw (trial-top t) at (g .0) in
+              let k = rw (trial-top w (s .depth) some t) at (g .0) in
               let b = give-back s w out ev d c v q (omega (arith, h .used)) (h .marks) (k .3) (k .4) pc pv eq in
-              record { same = b .same ∙ sym (rw (trial-top t, flag-set (s .over) o)) ∙ g .1; used = b .used; marks = b .marks };
+              record { same = b .same ∙ sym (rw (trial-top w (s .depth) some t, flag-set (s .over) o)) ∙ g .1; used = b .used; marks = b .marks };
           empty = λ q′ e. go-is-not-done c q q′ e;
         }
 
@@ -121,12 +111,9 @@ module _ (ev₀ w : List ℕ) (s₀ : State) (ev : List ℕ) (s : State) (h : Ri
           used = h .used;
           said = λ L out N e fits st.
               let g = h .said L out N e fits st in
-              let k = rw (trial-top t) at (g .0) in
-              (stacked-mono N _ (s .used) _ (s .marks) (stackOf d w) (k .3) (k .4) (k .5), rw (pv .over) (sym (rw (trial-top t, o))) ∙ g .1);
+              let k = rw (trial-top w (s .depth) some t) at (g .0) in
+              (stacked-mono N _ (s .used) _ (s .marks) (stackOf d w) (k .3) (k .4) (k .5), rw (pv .over) (sym (rw (trial-top w (s .depth) some t, o))) ∙ g .1);
         }
-
-    mark-top : (getD w (d * 4 + 3) 0 ≡ 0 → ⊥) → (getD w (d * 4 + 3) 0 ≡ 1 → ⊥) → stackOf (s .depth) w ≡ mark (getD w (d * 4) 0) (getD w (d * 4 + 1) 0) ∷ stackOf d w
-    mark-top a b = stack-top w (s .depth) some ∙ ap (λ (e : Entry). e ∷ stackOf d w) (mark-entry (getD w (d * 4 + 3) 0) _ _ (getD w (d * 4 + 2) 0) (savedAt w d) a b)
 
     module _ (no-node : getD w (d * 4 + 3) 0 ≡ 0 → ⊥) (no-trial : getD w (d * 4 + 3) 0 ≡ 1 → ⊥) (r : Bool) (ev′ : List ℕ)
         (p : Noted ev (s .marks) (s .used) 0 (getD w (d * 4 + 1) 0) r ev′) (len : length ev′ ≡ length ev) where
@@ -139,7 +126,7 @@ module _ (ev₀ w : List ℕ) (s₀ : State) (ev : List ℕ) (s : State) (h : Ri
           record {
             turning = λ L out N e fits st.
                 let g = h .said L out N e fits st in
-                record { same = sym (rw (mark-top no-node no-trial, room L e, z)) ∙ g .1; used = omega arith; marks = omega arith };
+                record { same = sym (rw (mark-top w (s .depth) some no-node no-trial, room L e, z)) ∙ g .1; used = omega arith; marks = omega arith };
             empty = λ q e. stop-is-not-done 9 (s .left) _ q e;
           }
 
@@ -155,9 +142,9 @@ module _ (ev₀ w : List ℕ) (s₀ : State) (ev : List ℕ) (s : State) (h : Ri
             used = h .used;
             said = λ L out N e fits st.
                 let g = h .said L out N e fits st in
-                let k = rw (mark-top no-node no-trial) at (g .0) in
+                let k = rw (mark-top w (s .depth) some no-node no-trial) at (g .0) in
                 let u : length (take (s .used) out) ≡ s .used = length-take-le (s .used) out (omega (arith, h .used)) in
                 let es : eventsOf (s .marks + 1) ev′ ≡ marked 0 (getD w (d * 4 + 1) 0) (pageOf s out ev) .events =
                 p .noted z ∙ ap (λ (o : ℕ). eventsOf (s .marks) ev ++ (record { offset = o; mark = 0; label = getD w (d * 4 + 1) 0 } ∷ [])) (sym u) in
-                (stacked-mono N (s .used) (s .used) (s .marks) (s .marks + 1) (stackOf d w) (omega arith) (omega arith) (k .1), rw es (sym (rw (mark-top no-node no-trial, room L e, z))) ∙ g .1);
+                (stacked-mono N (s .used) (s .used) (s .marks) (s .marks + 1) (stackOf d w) (omega arith) (omega arith) (k .1), rw es (sym (rw (mark-top w (s .depth) some no-node no-trial, room L e, z))) ∙ g .1);
           }

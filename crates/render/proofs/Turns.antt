@@ -1,7 +1,7 @@
 -- A visit and what is taken up after it, in one.
 -- Assumes nothing.
-use mathlib.Core.Path.{_≡_, refl, sym, ap, _∙_, subst}
-use Prim.Native.Nat.{ℕ, suc, _+_, _*_, _/_, _≤_, _<_}
+use mathlib.Core.Path.{_≡_, refl, sym, ap, subst}
+use Prim.Native.Nat.{ℕ, suc, _+_, _*_, _≤_}
 use native.Mathlib.Omega.{arith}
 use mathlib.Core.List.{List, _∷_}
 use lib.ListN.{length, take}
@@ -10,11 +10,10 @@ use Rattle.table.specs.declared.NodeNo.{NodeNo}
 use Rattle.machine.specs.Turn.{Turned, turn}
 use Rattle.machine.specs.Well.{Stacked, Well, weight}
 use Rattle.machine.proofs.Kept.{Next, turn-next, stacked-length}
-use Rattle.waiting.specs.Stack.{modeOf, flagOf, stackOf}
+use Rattle.waiting.specs.Stack.{flagOf, stackOf}
 use Rattle.waiting.specs.declared.Hand.{Hand}
 use Rattle.waiting.proofs.Laws.{length-stack}
-use Rattle.lay.specs.State.{top, eventsOf, pageOf}
-use Rattle.lay.specs.Turning.{turnedOf, Turning}
+use Rattle.lay.specs.State.{top, pageOf}
 use Rattle.lay.specs.declared.State.{State}
 use Rattle.lay.specs.declared.Turn.{Turn}
 use Rattle.lay.specs.declared.Turn.the-variants.{Go, Done, Stop}
@@ -24,15 +23,15 @@ use Rattle.render.specs.TakeUp.{takeUp, upFrom, TakenUp, TurnedUp}
 use Rattle.render.proofs.Rising.{go-is-not-done, stop-is-not-done}
 
 -- a page and what waits, by the code's counts
-pub well-of : (T tx out ev w : List ℕ) (W limit : ℕ) (s : State) (h : Hand) (q : Ready T tx out ev w W s h) → Well (envOf T tx out ev W limit .limits) (q .N) (pageOf s out ev) (top h ∷ stackOf (s .depth) w)
+well-of : (T tx out ev w : List ℕ) (W limit : ℕ) (s : State) (h : Hand) (q : Ready T tx out ev w W s h) → Well (envOf T tx out ev W limit .limits) (q .N) (pageOf s out ev) (top h ∷ stackOf (s .depth) w)
 well-of T tx out ev w W limit s h q =
     let u : length (take (s .used) out) ≡ s .used = length-take-le (s .used) out (q .used) in
-    record { column = rw u (q .column); fits = rw u (q .used); room = q .room; stack = rw (u, length-events (s .marks) ev) (q .stack) }
+    record { column = rw u (q .column); fits = rw u (q .used); room = q .start .room; stack = rw (u, length-events (s .marks) ev) (q .stack) }
 
 module _ (T tx out ev w : List ℕ) (W : ℕ) (s : State) (h : Hand) (q : Ready T tx out ev w W s h) where
   next : (limit : ℕ) → Next (envOf T tx out ev W limit .limits) (q .N) (suc (s .left)) (3 * suc (s .left) + weight (top h ∷ stackOf (s .depth) w)) (visited T tx out ev w W limit s h)
   unfolding turn
-  next limit = turn-next (envOf T tx out ev W limit) (q .N) (q .valid) (pageOf s out ev) (suc (s .left)) (flagOf (s .over)) (top h) (stackOf (s .depth) w) (well-of T tx out ev w W limit s h q)
+  next limit = turn-next (envOf T tx out ev W limit) (q .N) (q .start .valid) (pageOf s out ev) (suc (s .left)) (flagOf (s .over)) (top h) (stackOf (s .depth) w) (well-of T tx out ev w W limit s h q)
 
   module _ (r : Turn) (out′ ev′ w′ : List ℕ) (p : Visited T tx out ev w W s h r out′ ev′ w′) where
     pub turn-go : (c : Hand) (a : State) → r ≡ Go c a → TurnedUp T tx out ev w W s h (Go c a) out′ ev′ w′
@@ -58,7 +57,7 @@ module _ (T tx out ev w : List ℕ) (W : ℕ) (s : State) (h : Hand) (q : Ready 
 
       pub done-ready : length w′ ≡ length w → (a .depth ≤ 1024) × (8192 ≤ length w′) × (a .marks * 3 ≤ length ev′) × (length ev′ ≤ 12290)
       done-ready lw =
-          (omega (arith, stacked-length (q .N) (a .used) (a .marks) (stackOf (a .depth) w′) stacked, length-stack (a .depth) w′, q .small), omega (arith, q .area), done .turning 0 .marks, omega (arith, q .slots))
+          (omega (arith, stacked-length (q .N) (a .used) (a .marks) (stackOf (a .depth) w′) stacked, length-stack (a .depth) w′, q .start .small), omega (arith, q .start .area), done .turning 0 .marks, omega (arith, q .start .slots))
 
       pub turn-done : (r′ : Turn) (ev″ : List ℕ) → TakenUp a ev′ w′ r′ ev″ → TurnedUp T tx out ev w W s h r′ out′ ev″ w′
       turn-done r′ ev″ u =

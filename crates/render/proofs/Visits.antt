@@ -1,23 +1,22 @@
 -- A visit of the node in hand: what each kind's function asks for, and that it leads where the step function leads.
 -- Assumes nothing.
-use mathlib.Core.Path.{_≡_, refl, sym, ap, _∙_}
-use Prim.Native.Nat.{ℕ, zero, suc, _+_, _*_, _/_, _≤_, _<_}
+use mathlib.Core.Path.{_≡_, refl}
+use Prim.Native.Nat.{ℕ, _+_, _*_, _≤_, _<_}
 use native.Mathlib.Omega.{arith}
 use mathlib.Core.List.{List, _∷_}
 use lib.ListN.{getD, length}
-use Rattle.table.specs.Node.{Node, nil, append, group, flatAlt, nest, hardline, text, annotated, union, align, fail, wayOf, nodeOf, nodeAt}
-use Rattle.table.specs.Valid.{Sound, Valid}
+use Rattle.table.specs.Node.{Node, fail, wayOf, nodeOf, nodeAt}
+use Rattle.table.specs.Valid.{Sound}
 use Rattle.table.specs.declared.Indent.{Indent}
-use Rattle.rules.specs.Layout.{Limits, Page, Mode, flat, nested}
-use Rattle.machine.specs.Fit.{byMode}
+use Rattle.rules.specs.Layout.{Limits, Page, nested}
 use Rattle.machine.specs.Waiting.{Entry}
 use Rattle.machine.specs.Turn.{Turned, on, visit, giveUp}
 use Rattle.machine.proofs.Kept.{nodes-of}
 use Rattle.waiting.specs.Stack.{modeOf, flagOf, stackOf}
 use Rattle.waiting.specs.declared.Hand.{Hand}
-use Rattle.waiting.proofs.Laws.{length-stack}
+use Rattle.waiting.proofs.Laws.{flat-mode, length-stack}
 use Rattle.fitting.specs.Fitting.{Fitting}
-use Rattle.fitting.proofs.Nodes.{node-is, text-columns}
+use Rattle.table.proofs.Nodes.{node-is, sound-longer}
 use Rattle.lay.specs.State.{handOf, top, pageOf}
 use Rattle.lay.specs.Turning.{Turning, Kept, Restoring, Wrote, Annotated}
 use Rattle.lay.specs.declared.State.{State}
@@ -25,70 +24,57 @@ use Rattle.lay.specs.declared.Turn.{Turn}
 use Rattle.lay.specs.declared.Turn.the-variants.{Go, Done}
 use Rattle.render.specs.Visit.{Ready, Visited, envOf}
 
--- what is sound over a text is sound over a longer one
-sound-longer : (len len′ n : ℕ) → len ≤ len′ → (nd : Node) → Sound len n nd → Sound len′ n nd
-sound-longer len len′ n h nil s = tt
-sound-longer len len′ n h (append a b) s = s
-sound-longer len len′ n h (group a) s = s
-sound-longer len len′ n h (flatAlt a b) s = s
-sound-longer len len′ n h (nest a k way) s = s
-sound-longer len len′ n h hardline s = tt
-sound-longer len len′ n h (text o l c) s = (omega (arith, s .0), s .1)
-sound-longer len len′ n h (annotated a l) s = s
-sound-longer len len′ n h (union a b) s = s
-sound-longer len len′ n h (align a) s = s
-sound-longer len len′ n h fail s = tt
-
-flat-mode : (m : ℕ) → (m ≡ 0 → ⊥) → modeOf m ≡ flat
-flat-mode zero h = absurd (h refl)
-flat-mode (suc m) h = refl
-
 module _ (T tx out ev w : List ℕ) (W : ℕ) (s : State) (h : Hand) (q : Ready T tx out ev w W s h) where
   abbrev n : ℕ
   n = h .node .0
 
+  -- the node, if its kind is k
+  abbrev of-kind : ℕ → Node
+  of-kind k = nodeOf k (getD T (n * 4 + 1) 0) (getD T (n * 4 + 2) 0) (getD T (n * 4 + 3) 0)
+
   node-in : n < q .N
   node-in = omega (arith, q .stack .0)
 
-  pub words-in : n * 4 + 4 ≤ length T
-  words-in = omega (arith, node-in, q .words)
-
-  sound : (k : ℕ) → getD T (n * 4) 0 ≡ k → Sound (length tx) n (nodeOf k (getD T (n * 4 + 1) 0) (getD T (n * 4 + 2) 0) (getD T (n * 4 + 3) 0))
-  sound k e = rw (node-is T n k e) at (q .valid n node-in)
+  sound : (k : ℕ) → getD T (n * 4) 0 ≡ k → Sound (length tx) n (of-kind k)
+  sound k e = rw (node-is T n k e) at (q .start .valid n node-in)
 
   -- a push fits
   pub depth-small : s .depth < 1024
-  depth-small = omega (arith, q .stack .0, length-stack (s .depth) w, q .small)
+  depth-small = omega (arith, q .stack .0, length-stack (s .depth) w, q .start .small)
 
   pub group-fits : getD T (n * 4) 0 ≡ 2 → Fitting T w W (getD T (n * 4 + 1) 0) (s .depth) (s .column .0)
   group-fits e =
       record {
         N = q .N;
-        valid = λ k lt. sound-longer (length tx) 65536 k (q .texts) (nodeAt T k) (q .valid k lt);
-        words = q .words;
-        small = q .small;
+        valid = λ k lt. sound-longer (length tx) 65536 k (q .start .texts) (nodeAt T k) (q .start .valid k lt);
+        words = q .start .words;
+        small = q .start .small;
         child = omega (arith, sound 2 e, node-in);
         nodes = nodes-of (q .N) (s .used) (s .marks) (stackOf (s .depth) w) (q .stack .2);
         deep = omega (arith, depth-small);
-        area = q .area;
-        width = omega (arith, q .width);
-        column = omega (arith, q .column, q .used, q .room);
+        area = q .start .area;
+        width = omega (arith, q .start .width);
+        column = omega (arith, q .column, q .used, q .start .room);
       }
 
   pub nest-fits : getD T (n * 4) 0 ≡ 4 → h .indent .0 + getD T (n * 4 + 2) 0 ≤ 2000000
-  nest-fits e = let g = sound 4 e in omega (arith, g .1, q .stack .1, q .small)
+  nest-fits e = let g = sound 4 e in omega (arith, g .1, q .stack .1, q .start .small)
 
   pub text-fits : getD T (n * 4) 0 ≡ 6
       → (getD T (n * 4 + 1) 0 + getD T (n * 4 + 2) 0 ≤ length tx) × (length tx ≤ 65536) × (s .column .0 ≤ 65536) × (getD T (n * 4 + 3) 0 ≤ 65536) × (s .used ≤ length out) × (length out ≤ 65536)
   text-fits e =
       let g = sound 6 e in
-      (g .0, q .texts, omega (arith, q .column, q .used, q .room), omega (arith, g .0, g .1, q .texts), q .used, q .room)
+      (g .0, q .start .texts, omega (arith, q .column, q .used, q .start .room), omega (arith, g .0, g .1, q .start .texts), q .used, q .start .room)
 
   -- ---- where a visit leads
 
+  -- by the step function, if the node's kind is k
+  abbrev leads : ℕ → ℕ → Turned
+  leads k limit = visit (envOf T tx out ev W limit) n (of-kind k) (h .indent .0) (modeOf (h .mode .0)) (pageOf s out ev) (s .left) (flagOf (s .over)) (stackOf (s .depth) w)
+
   -- by the kind
   visit-by : (k : ℕ) (r : Turn) (out′ ev′ w′ : List ℕ) → getD T (n * 4) 0 ≡ k
-      → ((limit : ℕ) → Turning r out′ ev′ w′ (visit (envOf T tx out ev W limit) n (nodeOf k (getD T (n * 4 + 1) 0) (getD T (n * 4 + 2) 0) (getD T (n * 4 + 3) 0)) (h .indent .0) (modeOf (h .mode .0)) (pageOf s out ev) (s .left) (flagOf (s .over)) (stackOf (s .depth) w)))
+      → ((limit : ℕ) → Turning r out′ ev′ w′ (leads k limit))
       → Visited T tx out ev w W s h r out′ ev′ w′
   visit-by k r out′ ev′ w′ e t = record { turning = λ limit. rw (node-is T n k e) (t limit) }
 
@@ -97,14 +83,14 @@ module _ (T tx out ev w : List ℕ) (W : ℕ) (s : State) (h : Hand) (q : Ready 
 
   -- a function that writes the work area alone: Append, Group, Union
   pub visit-kept : (k : ℕ) (r : Turn) (w′ : List ℕ) (t : Page → Turned) → getD T (n * 4) 0 ≡ k → Kept s r w′ t
-      → ((limit : ℕ) → t (pageOf s out ev) ≡ visit (envOf T tx out ev W limit) n (nodeOf k (getD T (n * 4 + 1) 0) (getD T (n * 4 + 2) 0) (getD T (n * 4 + 3) 0)) (h .indent .0) (modeOf (h .mode .0)) (pageOf s out ev) (s .left) (flagOf (s .over)) (stackOf (s .depth) w))
+      → ((limit : ℕ) → t (pageOf s out ev) ≡ leads k limit)
       → Visited T tx out ev w W s h r out ev w′
   visit-kept k r w′ t e p is =
       visit-by k r out ev w′ e (λ limit. rw (← (is limit)) (p .turning out ev (q .used) (q .marks)))
 
   -- a child goes on in hand, with an indentation
   visit-child : (k : ℕ) (c : Hand) → getD T (n * 4) 0 ≡ k
-      → ((limit : ℕ) → on (pageOf s out ev) (s .left) (flagOf (s .over)) (top c ∷ stackOf (s .depth) w) ≡ visit (envOf T tx out ev W limit) n (nodeOf k (getD T (n * 4 + 1) 0) (getD T (n * 4 + 2) 0) (getD T (n * 4 + 3) 0)) (h .indent .0) (modeOf (h .mode .0)) (pageOf s out ev) (s .left) (flagOf (s .over)) (stackOf (s .depth) w))
+      → ((limit : ℕ) → on (pageOf s out ev) (s .left) (flagOf (s .over)) (top c ∷ stackOf (s .depth) w) ≡ leads k limit)
       → Visited T tx out ev w W s h (Go c s) out ev w
   visit-child k c e is = visit-by k (Go c s) out ev w e (λ limit. record { same = is limit; used = q .used; marks = q .marks })
 
@@ -124,13 +110,13 @@ module _ (T tx out ev w : List ℕ) (W : ℕ) (s : State) (h : Hand) (q : Ready 
 
   -- a function that writes the output alone: Hardline, Text
   pub visit-wrote : (k : ℕ) (r : Turn) (out′ : List ℕ) (t : Limits → Page → List Entry → Turned) → getD T (n * 4) 0 ≡ k → Wrote s out r out′ t
-      → ((limit : ℕ) → t (envOf T tx out ev W limit .limits) (pageOf s out ev) (stackOf (s .depth) w) ≡ visit (envOf T tx out ev W limit) n (nodeOf k (getD T (n * 4 + 1) 0) (getD T (n * 4 + 2) 0) (getD T (n * 4 + 3) 0)) (h .indent .0) (modeOf (h .mode .0)) (pageOf s out ev) (s .left) (flagOf (s .over)) (stackOf (s .depth) w))
+      → ((limit : ℕ) → t (envOf T tx out ev W limit .limits) (pageOf s out ev) (stackOf (s .depth) w) ≡ leads k limit)
       → Visited T tx out ev w W s h r out′ ev w
   visit-wrote k r out′ t e p is =
       visit-by k r out′ ev w e (λ limit. rw (← (is limit)) (p .turning (envOf T tx out ev W limit .limits) ev w refl (q .marks)))
 
   pub visit-annotated : (r : Turn) (ev′ w′ : List ℕ) (t : Limits → Page → Turned) → getD T (n * 4) 0 ≡ 7 → Annotated s ev r ev′ w′ t
-      → ((limit : ℕ) → t (envOf T tx out ev W limit .limits) (pageOf s out ev) ≡ visit (envOf T tx out ev W limit) n (nodeOf 7 (getD T (n * 4 + 1) 0) (getD T (n * 4 + 2) 0) (getD T (n * 4 + 3) 0)) (h .indent .0) (modeOf (h .mode .0)) (pageOf s out ev) (s .left) (flagOf (s .over)) (stackOf (s .depth) w))
+      → ((limit : ℕ) → t (envOf T tx out ev W limit .limits) (pageOf s out ev) ≡ leads 7 limit)
       → Visited T tx out ev w W s h r out ev′ w′
   visit-annotated r ev′ w′ t e p is =
       visit-by 7 r out ev′ w′ e (λ limit. rw (← (is limit)) (p .turning (envOf T tx out ev W limit .limits) out refl (q .used)))

@@ -1,26 +1,13 @@
--- What a run starts from, and what it promises: the step function's report.
+-- What a run promises: the step function's report.
 use mathlib.Core.Path.{_≡_}
-use Prim.Native.Nat.{ℕ, _-_, _*_, _≤_, _<_}
+use Prim.Native.Nat.{ℕ, _-_, _*_, _≤_}
 use mathlib.Core.List.{List}
 use lib.ListN.{length, take}
-use Rattle.table.specs.Valid.{Valid}
 use Rattle.rules.specs.Layout.{Report}
 use Rattle.machine.specs.Turn.{layout}
 use Rattle.lay.specs.State.{eventsOf}
 use Rattle.render.specs.Visit.{envOf}
 use Rattle.render.specs.declared.End.{End}
-
--- a valid table of N nodes, at least one; sizes within bounds
-pub record Start (T tx out ev w : List ℕ) (W N : ℕ) : Type 0 where
-  pub valid : Valid T (length tx) N
-  pub some : 0 < N
-  pub words : N * 4 ≤ length T
-  pub small : N ≤ 1024
-  pub texts : length tx ≤ 65536
-  pub room : length out ≤ 65536
-  pub slots : length ev ≤ 12290
-  pub area : 16384 ≤ length w
-  pub width : W ≤ 65535
 
 -- how the code's run ended, as a report over the output and the events
 abbrev pub reportOf : ℕ → End → List ℕ → List ℕ → Report

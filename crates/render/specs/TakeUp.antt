@@ -1,14 +1,14 @@
 -- What is taken up when a node is done: ends of annotations and trials, until a node is on top or nothing waits.
 use mathlib.Core.Path.{_≡_}
-use Prim.Native.Nat.{ℕ, _*_, _/_, _≤_}
+use Prim.Native.Nat.{ℕ, _/_, _≤_}
 use mathlib.Core.Bool.{Bool}
 use mathlib.Core.List.{List, [], _∷_}
 use lib.ListN.{length}
 use lib.Dec.{ltb}
 use Rattle.table.specs.Pick.{pick}
 use Rattle.rules.specs.Layout.{Limits, Page, marked}
-use Rattle.machine.specs.Waiting.{Saved, Entry, node, trial, mark, back}
-use Rattle.machine.specs.Turn.{Env, Turned, on, stop}
+use Rattle.machine.specs.Waiting.{Entry, node, trial, mark, back}
+use Rattle.machine.specs.Turn.{Turned, on, stop}
 use Rattle.machine.specs.Well.{Stacked}
 use Rattle.waiting.specs.Stack.{flagOf, stackOf}
 use Rattle.waiting.specs.declared.Hand.{Hand}

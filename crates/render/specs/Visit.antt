@@ -1,5 +1,5 @@
--- What a visit of the node in hand starts from and promises.
-use Prim.Native.Nat.{ℕ, _+_, _*_, _/_, _≤_, _<_}
+-- What a run starts from; what a visit of the node in hand starts from, and what it promises.
+use Prim.Native.Nat.{ℕ, _*_, _/_, _≤_, _<_}
 use mathlib.Core.List.{List, _∷_}
 use lib.ListN.{length}
 use Rattle.table.specs.Node.{nodeAt}
@@ -18,10 +18,10 @@ abbrev pub envOf : List ℕ → List ℕ → List ℕ → List ℕ → ℕ → �
 envOf T tx out ev W limit =
     record { table = T; str = tx; limits = record { width = W; limit = limit; room = length out; slots = length ev / 3 } }
 
--- a valid table of N nodes, sizes within bounds, and a state that is well with the node in hand on top
-pub record Ready (T tx out ev w : List ℕ) (W : ℕ) (s : State) (h : Hand) : Type 0 where
-  pub N : ℕ
+-- a valid table of N nodes, at least one; sizes within bounds
+pub record Start (T tx out ev w : List ℕ) (W N : ℕ) : Type 0 where
   pub valid : Valid T (length tx) N
+  pub some : 0 < N
   pub words : N * 4 ≤ length T
   pub small : N ≤ 1024
   pub texts : length tx ≤ 65536
@@ -29,6 +29,11 @@ pub record Ready (T tx out ev w : List ℕ) (W : ℕ) (s : State) (h : Hand) : T
   pub slots : length ev ≤ 12290
   pub area : 16384 ≤ length w
   pub width : W ≤ 65535
+
+-- the same with a state that is well, and the node in hand on top
+pub record Ready (T tx out ev w : List ℕ) (W : ℕ) (s : State) (h : Hand) : Type 0 where
+  pub N : ℕ
+  pub start : Start T tx out ev w W N
   pub used : s .used ≤ length out
   pub marks : s .marks * 3 ≤ length ev
   pub column : s .column .0 ≤ s .used

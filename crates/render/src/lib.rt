@@ -11,9 +11,9 @@ use waiting::Hand;
 use waiting::Mode;
 ghost use Prim.Native.Nat.{_+_, _*_, _≤_, _<_};
 ghost use lib.ListN.{length};
-ghost use Rattle.render.specs.Visit.{Ready, Visited};
+ghost use Rattle.render.specs.Visit.{Start, Ready, Visited};
 ghost use Rattle.render.specs.TakeUp.{TakenUp, TurnedUp};
-ghost use Rattle.render.specs.Best.{Start, Laid};
+ghost use Rattle.render.specs.Best.{Laid};
 
 // How a run ended: the answer, the place, the steps left, the bytes and the events used.
 pub struct End {

@@ -17,7 +17,7 @@ use Rattle.rules.proofs.Answers.{answered}
 
 -- ---- used and zero
 
-padded-length : (used : List ℕ) (size : ℕ) → length used ≤ size → length (padded used size) ≡ size
+pub padded-length : (used : List ℕ) (size : ℕ) → length used ≤ size → length (padded used size) ≡ size
 padded-length used size h = simp (length-append, length-replicate) (omega arith)
 
 padded-past : (used : List ℕ) (size i d : ℕ) → length used ≤ i → i < size → getD (padded used size) i d ≡ 0
@@ -25,12 +25,12 @@ padded-past used size i d h k =
     let e : length used + (i - length used) ≡ i = omega arith in
     subst (λ j. getD (padded used size) j d ≡ 0) e (getD-append-add used _ (i - length used) d ∙ getD-replicate (size - length used) (i - length used) 0 d (omega arith))
 
-padded-none : (size : ℕ) → padded [] size ≡ replicate size 0
+pub padded-none : (size : ℕ) → padded [] size ≡ replicate size 0
 padded-none size =
     let e : size - 0 ≡ size = omega arith in
     ap (λ n. replicate n 0) e
 
-length-words : (es : List Event) → length (wordsOf es) ≡ length es * eventWords
+pub length-words : (es : List Event) → length (wordsOf es) ≡ length es * eventWords
 unfolding wordsOf
 length-words [] = refl
 length-words (e ∷ es) = omega (arith, length-words es)

@@ -19,3 +19,5 @@ pub mod Answers
 pub mod Cleared
 -- like trees run alike
 pub mod Like
+-- random calls, with the answers of the interpreter in compare
+pub mod Sample

@@ -3,13 +3,14 @@
 --     clean-of, of-clean       the first N nodes have no fault, and each of them has none
 --     first-zero, first-next, first-here   the first fault, node by node
 --     check-sizes, check-nodes 1 comes first, then the nodes
---     accepted-of, of-accepted `check` answers 0, and the table is accepted
+--     accepted-of, of-accepted, accepted   `check` answers 0, and the table is accepted; both ways
 -- Assumes nothing.
-use Prim.Native.Nat.{ℕ, zero, suc, _+_, _*_, _/_, _%_, _≤_, _<_}
+use Prim.Native.Nat.{ℕ, zero, suc, _+_, _/_, _%_, _≤_, _<_}
 use native.Mathlib.Omega.{arith}
 use native.Mathlib.Nat.{not-suc-le-zero}
 use native.Mathlib.Decide.{decLt}
 use mathlib.Core.Path.{_≡_, refl, sym, ap, _∙_}
+use mathlib.Core.Logic.{_↔_}
 use mathlib.Core.Bool.{Bool, true, false, not, _&&_, _||_, true≢false}
 use mathlib.Core.List.{List, [], _∷_}
 use lib.ListN.{length, take, drop, length-take, length-drop}
@@ -17,11 +18,10 @@ use lib.Dec.{eqb, ltb, leb}
 use borrow.Author.Tests.{ltb-true, leb-true, eqb-true, eqb-false, not-true, not-false, lt-ltb, le-leb, lt-leb, leb-false, eq-eqb, ne-eqb}
 use Rattle.table.specs.Pick.{pick}
 use Rattle.table.specs.Kinds.{kindAt}
-use Rattle.table.specs.Node.{word}
-use Rattle.table.specs.Utf8.{Range, within, to, Start, start, follow, never, owed, wellFormed, ascii}
-use Rattle.table.specs.Fault.{Fault, fault, none, unusedZero, childrenBelow, nestInRange, rangeInside, columnsRight, textRight, faultOf, faultAt, orElse, firstFault, sizesRight, check}
-use Rattle.table.specs.Accepted.{NestRight, TextRight, NodeRight, Accepted}
-use Rattle.table.proofs.Tests.{and-true, true-and, or-true, true-or, not-is-true, passed, passes}
+use Rattle.table.specs.Utf8.{Range, Start, start, follow, never, owed, wellFormed, ascii}
+use Rattle.table.specs.Fault.{Fault, fault, none, unusedZero, childrenBelow, nestInRange, columnsRight, faultOf, faultAt, orElse, firstFault, sizesRight, check}
+use Rattle.table.specs.Accepted.{NodeRight, Accepted}
+use Rattle.table.proofs.Tests.{and-true, true-and, or-true, true-or, passed, passes}
 
 -- ---- a Text's bytes and columns
 
@@ -65,19 +65,10 @@ of-columns bs c b l w f le = go (ascii bs) refl
 
 -- ---- one node
 
+not-zero : (k : ℕ) → suc k ≡ 0 → ⊥
+not-zero k e = omega arith
+
 module _ (text : List ℕ) (n k a b c : ℕ) where
-  no2 : _≡_ {A = ℕ} 2 0 → ⊥
-  no2 e = omega arith
-
-  no3 : _≡_ {A = ℕ} 3 0 → ⊥
-  no3 e = omega arith
-
-  no4 : _≡_ {A = ℕ} 4 0 → ⊥
-  no4 e = omega arith
-
-  no5 : _≡_ {A = ℕ} 5 0 → ⊥
-  no5 e = omega arith
-
   -- at a kind, its own test counts
   at-kind : (j : ℕ) (q : Bool) → not (eqb k j) || q ≡ true → k ≡ j → q ≡ true
   at-kind j q e h = or-true (not (eqb k j)) q e (ap not (eq-eqb k j h))
@@ -91,10 +82,10 @@ module _ (text : List ℕ) (n k a b c : ℕ) where
   right-of e =
       let w = kindAt k .words in
       let h = kindAt k .children in
-      let p2 = passed _ _ _ no2 e in
-      let p3 = passed _ _ _ no3 (p2 .1) in
-      let p4 = passed _ _ _ no4 (p3 .1) in
-      let p5 = passed _ _ _ no5 (p4 .1) in
+      let p2 = passed _ _ _ (not-zero 1) e in
+      let p3 = passed _ _ _ (not-zero 2) (p2 .1) in
+      let p4 = passed _ _ _ (not-zero 3) (p3 .1) in
+      let p5 = passed _ _ _ (not-zero 4) (p4 .1) in
       let k2 = and-true (ltb k 11) (unusedZero w a b c) (p2 .0) in
       let u3 = and-true ((leb 1 w || eqb a 0) && (leb 2 w || eqb b 0)) (leb 3 w || eqb c 0) (k2 .1) in
       let u2 = and-true (leb 1 w || eqb a 0) (leb 2 w || eqb b 0) (u3 .0) in
@@ -183,8 +174,10 @@ module _ (table text : List ℕ) where
   pub of-clean : (N : ℕ) → ((n : ℕ) → n < N → faultAt table text n ≡ 0) → firstFault table text N ≡ none
   of-clean zero f = first-zero
   of-clean (suc N) f = first-next N (of-clean N (λ n h. f n (omega arith))) (f N (omega arith))
-      -- ---- the whole table
 
+-- ---- the whole table
+
+module _ (table text : List ℕ) where
   pub check-sizes : sizesRight (length table) (length text) ≡ false → check table text ≡ fault 1 0
   unfolding check
   check-sizes e = rw e
@@ -215,7 +208,7 @@ module _ (table text : List ℕ) where
             fours = s .1;
             words = s .2;
             bytes = s .3;
-            nodes = λ n h. unfold faultAt in right-of text n _ _ _ _ (clean-of (length table / 4) e n h);
+            nodes = λ n h. unfold faultAt in right-of text n _ _ _ _ (clean-of table text (length table / 4) e n h);
           }
       go false q e = absurd (omega arith)
 
@@ -225,6 +218,11 @@ module _ (table text : List ℕ) where
   of-accepted r =
       let w = length table in
       let some : not (eqb w 0) ≡ true = ap not (ne-eqb w 0 (λ z. omega (arith, r .some))) in
-      let sizes : sizesRight w (length text) ≡ true =
-      true-and _ _ (true-and _ _ (true-and _ _ some (eq-eqb (w % 4) 0 (r .fours))) (le-leb w 4096 (r .words))) (le-leb (length text) 65536 (r .bytes)) in
-      rw sizes (of-clean (w / 4) (λ n h. unfold faultAt in of-right text n _ _ _ _ (r .nodes n h)))
+      let whole = true-and (not (eqb w 0)) (eqb (w % 4) 0) some (eq-eqb (w % 4) 0 (r .fours)) in
+      let table-size = true-and _ (leb w 4096) whole (le-leb w 4096 (r .words)) in
+      let sizes : sizesRight w (length text) ≡ true = true-and _ _ table-size (le-leb (length text) 65536 (r .bytes)) in
+      rw sizes (of-clean table text (w / 4) (λ n h. unfold faultAt in of-right text n _ _ _ _ (r .nodes n h)))
+
+  -- both directions
+  pub accepted : (check table text .answer ≡ 0) ↔ Accepted table text
+  accepted = (accepted-of, λ r. ap (λ (f : Fault). f .answer) (of-accepted r))

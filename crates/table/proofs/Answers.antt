@@ -2,7 +2,7 @@
 -- Assumes nothing.
 use Prim.Native.Nat.{ℕ, _+_, _*_, _≤_, _<_}
 use native.Mathlib.Omega.{arith}
-use mathlib.Core.Path.{_≡_, refl, sym, ap, _∙_}
+use mathlib.Core.Path.{_≡_, sym, ap, _∙_}
 use mathlib.Core.Bool.{Bool, true, false, _&&_}
 use mathlib.Core.List.{List}
 use lib.ListN.{length, getD, take, drop}
@@ -12,7 +12,8 @@ use Rattle.table.specs.Pick.{pick}
 use Rattle.table.specs.Kinds.{kindAt}
 use Rattle.table.specs.declared.KindInfo.{KindInfo}
 use Rattle.table.specs.Utf8.{wellFormed, ascii}
-use Rattle.table.specs.Fault.{Fault, fault, unusedZero, childrenBelow, nestInRange, columnsRight, textFault, faultOf, faultAt}
+use Rattle.table.specs.Parts.{textFault}
+use Rattle.table.specs.Fault.{Fault, fault, unusedZero, childrenBelow, nestInRange, columnsRight, faultOf, faultAt}
 use Rattle.table.proofs.Accept.{part-length}
 use Rattle.table.proofs.Octets.{ascii-part}
 

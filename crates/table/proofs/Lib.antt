@@ -6,3 +6,4 @@ pub mod Octets
 pub mod Answers
 pub mod Sound
 pub mod Unfolded
+pub mod Nodes

@@ -14,18 +14,14 @@ use lib.Seq.{take-suc, drop-cons}
 use lib.Dec.{eqb, ltb, leb, eqb·suc-zero}
 use borrow.Author.Tests.{ltb-true, leb-true, le-leb, lt-leb}
 use Rattle.table.specs.Utf8.{Range, to, within, tail, Start, start, follow, never, owed, ascii}
-use Rattle.table.specs.Owing.{owing, ranges, starts, goesOn, GoesOn}
+use Rattle.table.specs.Parts.{owing, ranges, starts, goesOn, GoesOn}
 use Rattle.table.specs.declared.utf8.Owing.{Owing}
 use Rattle.table.specs.declared.utf8.Next.{Next}
 use Rattle.table.specs.declared.utf8.Next.the-variants.{Owes, Wrong}
-use Rattle.table.proofs.Tests.{and-true, true-and, or-true, all, all-at}
+use Rattle.table.proofs.Tests.{and-end, and-true, true-and, or-true, all, all-at}
 use Rattle.table.proofs.Accept.{owed-start}
 
 -- ---- all below 128
-
-and-end : (p : Bool) → p && true ≡ p
-and-end true = refl
-and-end false = refl
 
 and-assoc : (p q r : Bool) → (p && q) && r ≡ p && (q && r)
 and-assoc true q r = refl

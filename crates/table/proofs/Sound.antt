@@ -3,14 +3,14 @@
 --     valid-of      the first N nodes
 --     valid-check   the whole table, accepted by `check`
 -- Assumes nothing.
-use Prim.Native.Nat.{ℕ, zero, suc, _+_, _/_, _≤_, _<_}
+use Prim.Native.Nat.{ℕ, zero, suc, _/_}
 use native.Mathlib.Omega.{arith}
 use mathlib.Core.Path.{_≡_, refl}
 use mathlib.Core.List.{List}
 use lib.ListN.{length}
 use Rattle.table.specs.Kinds.{kinds, kindAt}
-use Rattle.table.specs.Node.{nodeOf, nodeAt, word}
-use Rattle.table.specs.Fault.{faultOf, faultAt, firstFault, check}
+use Rattle.table.specs.Node.{nodeOf, nodeAt}
+use Rattle.table.specs.Fault.{faultAt, firstFault, check}
 use Rattle.table.specs.Accepted.{NodeRight, Accepted}
 use Rattle.table.specs.Valid.{Sound, Valid}
 use Rattle.table.proofs.Accept.{right-of, clean-of, accepted-of}

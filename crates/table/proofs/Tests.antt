@@ -1,12 +1,20 @@
 -- Tests joined by `&&`, `||` and `pick`: what they say, and how they come to be true; a test of all of a list, computed, read at one place.
 -- Assumes nothing.
 use mathlib.Core.Path.{_≡_, refl, sym}
-use mathlib.Core.Bool.{Bool, true, false, not, _&&_, _||_, true≢false}
+use mathlib.Core.Bool.{Bool, true, false, _&&_, _||_, true≢false}
 use mathlib.Core.List.{List, [], _∷_}
 use Prim.Native.Nat.{ℕ, zero, suc, _+_, _<_}
 use native.Mathlib.Nat.{add-zero, zero-add, add-suc, suc-add, not-suc-le-zero, le-of-suc-le-suc}
 use lib.ListN.{length, getD}
 use Rattle.table.specs.Pick.{pick}
+
+pub and-end : (p : Bool) → p && true ≡ p
+and-end true = refl
+and-end false = refl
+
+pub and-false : (p : Bool) → p && false ≡ false
+and-false true = refl
+and-false false = refl
 
 pub and-true : (p q : Bool) → p && q ≡ true → (p ≡ true) × (q ≡ true)
 and-true true q e = (refl, e)
@@ -23,9 +31,6 @@ or-true false q e f = e
 pub true-or : (p q : Bool) → (p ≡ false → q ≡ true) → p || q ≡ true
 true-or true q f = refl
 true-or false q f = f refl
-
-pub not-is-true : (p : Bool) → p ≡ false → not p ≡ true
-not-is-true p e = rw e
 
 -- a choice between 0 and an answer that is not 0
 pub passed : (p : Bool) (x y : ℕ) → (y ≡ 0 → ⊥) → pick p x y ≡ 0 → (p ≡ true) × (x ≡ 0)

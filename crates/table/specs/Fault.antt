@@ -1,6 +1,6 @@
 -- Answers 1 to 5: what is wrong with a table and its text, in document 01's order.
-use Prim.Native.Nat.{ℕ, zero, suc, _+_, _*_, _/_, _%_}
-use mathlib.Core.Bool.{Bool, true, false, not, _&&_, _||_}
+use Prim.Native.Nat.{ℕ, zero, suc, _+_, _/_, _%_}
+use mathlib.Core.Bool.{Bool, not, _&&_, _||_}
 use mathlib.Core.List.{List}
 use lib.ListN.{length, take, drop}
 use lib.Dec.{eqb, ltb, leb}
@@ -44,10 +44,6 @@ columnsRight bytes c = pick (ascii bytes) (eqb c (length bytes)) (wellFormed byt
 
 abbrev pub textRight : List ℕ → ℕ → ℕ → ℕ → ℕ → Bool
 textRight text k a b c = not (eqb k 6) || columnsRight (take b (drop a text)) c
-
--- the same for a Text alone: 0, or the first of 4, 5
-abbrev pub textFault : List ℕ → ℕ → ℕ → ℕ → ℕ
-textFault text a b c = pick (leb (a + b) (length text)) (pick (columnsRight (take b (drop a text)) c) 0 5) 4
 
 -- 0, or the first of 2, 3, 4, 5
 unfoldable pub faultOf : List ℕ → ℕ → ℕ → ℕ → ℕ → ℕ → ℕ

@@ -3,8 +3,8 @@ pub mod Pick
 pub mod Kinds
 pub mod Node
 pub mod Utf8
-pub mod Owing
 pub mod Fault
+pub mod Parts
 pub mod Unfold
 pub mod Document
 pub mod Valid

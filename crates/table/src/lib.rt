@@ -6,7 +6,8 @@ ghost use Prim.Native.Nat.{_/_, _≤_, _<_};
 ghost use lib.ListN.{length};
 ghost use Rattle.table.specs.Kinds.{kinds, kindAt};
 ghost use Rattle.table.specs.Utf8.{ascii};
-ghost use Rattle.table.specs.Fault.{unusedZero, childrenBelow, nestInRange, faultOf, textFault, firstFault, sizesRight, check};
+ghost use Rattle.table.specs.Parts.{Tells, textFault};
+ghost use Rattle.table.specs.Fault.{unusedZero, childrenBelow, nestInRange, faultOf, firstFault, sizesRight, check};
 use utf8::below_128;
 use utf8::columns_right;
 
@@ -100,22 +101,52 @@ pub struct Fault {
 
 // ---- one node
 
+// Words that the kind doesn't use are 0.
 fn unused_zero(words: u32, a: u32, b: u32, c: u32) -> bool
     ensures { λ r. ⌜ r ≡ unusedZero words a b c ⌝ }
 {
-    ((1 <= words) | (a == 0)) & ((2 <= words) | (b == 0)) & ((3 <= words) | (c == 0))
+    if 3 <= words {
+        return true;
+    }
+    if c != 0 {
+        return false;
+    }
+    if 2 <= words {
+        return true;
+    }
+    if b != 0 {
+        return false;
+    }
+    if 1 <= words {
+        return true;
+    }
+    a == 0
 }
 
-fn children_below(n: u32, children: u32, a: u32, b: u32) -> bool
-    ensures { λ r. ⌜ r ≡ childrenBelow n children a b ⌝ }
+// A child's number is below its parent's.
+fn children_below(n: NodeNo, children: u32, a: u32, b: u32) -> bool
+    ensures { λ r. ⌜ r ≡ childrenBelow (n .0) children a b ⌝ }
 {
-    ((children <= 0) | (a < n)) & ((children <= 1) | (b < n))
+    if children <= 0 {
+        return true;
+    }
+    if n.0 <= a {
+        return false;
+    }
+    if children <= 1 {
+        return true;
+    }
+    b < n.0
 }
 
+// Amount 0 to 1,000; 0 adds, 1 subtracts.
 fn nest_in_range(k: u32, b: u32, c: u32) -> bool
     ensures { λ r. ⌜ r ≡ nestInRange k b c ⌝ }
 {
-    (k != 4) | ((b <= 1000) & (c <= 1))
+    if k != 4 {
+        return true;
+    }
+    (b <= 1000) & (c <= 1)
 }
 
 // A Text's range, then its bytes and columns. Where all of the text is below 128, so is every part of it.
@@ -134,7 +165,7 @@ fn text_fault(text: &[u8], plain: bool, a: u32, b: u32, c: u32) -> u32
         }
         return 5;
     }
-    if columns_right(&text[at..end], c) {
+    if columns_right(&text[at..end], Column(c)) {
         0
     } else {
         5
@@ -146,14 +177,14 @@ fn node_fault(
     text: &[u8],
     plain: bool,
     info: KindInfo,
-    n: u32,
+    n: NodeNo,
     k: u32,
     a: u32,
     b: u32,
     c: u32,
 ) -> u32
     requires { ⌜ (plain ≡ ascii (now text)) × (k < 11) × (info ≡ kindAt k) ⌝ }
-    ensures { λ r. ⌜ r ≡ faultOf (now (text .entry)) n k a b c ⌝ }
+    ensures { λ r. ⌜ r ≡ faultOf (now (text .entry)) (n .0) k a b c ⌝ }
 {
     if !unused_zero(info.words, a, b, c) {
         return 2;
@@ -175,20 +206,17 @@ fn node_fault(
 // The first fault of the nodes from 0 up, unreachable ones too.
 fn first_fault(table: &[u32], text: &[u8], plain: bool) -> Fault
     requires { ⌜ (plain ≡ ascii (now text)) × (length (now table) ≤ 4096) ⌝ }
-    ensures { λ r. ⌜ (r .answer ≡ firstFault (now (table .entry)) (now (text .entry)) (length (now (table .entry)) / 4) .answer) × (r .place .0 ≡ firstFault (now (table .entry)) (now (text .entry)) (length (now (table .entry)) / 4) .place) ⌝ }
+    ensures { λ r. ⌜ Tells r (firstFault (now (table .entry)) (now (text .entry)) (length (now (table .entry)) / 4)) ⌝ }
 {
-    let kinds = KINDS;
+    let kinds = all_kinds();
     let nodes = table.len() / 4;
     let mut n = 0;
     while n < nodes {
         let at = n * 4;
-        let place = n as u32;
+        let place = NodeNo(n as u32);
         let k = table[at];
         if 11 <= k {
-            return Fault {
-                answer: 2,
-                place: NodeNo(place),
-            };
+            return Fault { answer: 2, place };
         }
         let info = kinds[k as usize];
         let answer = node_fault(
@@ -202,10 +230,7 @@ fn first_fault(table: &[u32], text: &[u8], plain: bool) -> Fault
             table[at + 3],
         );
         if answer != 0 {
-            return Fault {
-                answer,
-                place: NodeNo(place),
-            };
+            return Fault { answer, place };
         }
         n += 1;
     }
@@ -223,7 +248,7 @@ fn sizes_right(words: usize, bytes: usize) -> bool
 
 // Answers 1 to 5 with the place, in document 01's order; 0 for a valid table.
 pub fn validate(table: &[u32], text: &[u8]) -> Fault
-    ensures { λ r. ⌜ (r .answer ≡ check (now (table .entry)) (now (text .entry)) .answer) × (r .place .0 ≡ check (now (table .entry)) (now (text .entry)) .place) ⌝ }
+    ensures { λ r. ⌜ Tells r (check (now (table .entry)) (now (text .entry))) ⌝ }
 {
     if !sizes_right(table.len(), text.len()) {
         return Fault {

@@ -1,8 +1,9 @@
 // Text bytes: whether all are below 128, whether they are well-formed UTF-8 by RFC 3629, and whether a Text's columns are right.
 ghost use mathlib.Core.Path.{_≡_};
 ghost use Rattle.table.specs.Utf8.{wellFormed, ascii, start};
-ghost use Rattle.table.specs.Owing.{starts, GoesOn};
+ghost use Rattle.table.specs.Parts.{starts, GoesOn};
 ghost use Rattle.table.specs.Fault.{columnsRight};
+use super::Column;
 
 // Whether all bytes are below 128. It reads to the end, so that it goes by whole blocks.
 pub fn below_128(bytes: &[u8]) -> bool
@@ -145,10 +146,10 @@ pub fn well_formed(bytes: &[u8]) -> bool
 }
 
 // Whether the columns of a Text with these bytes are right, and the bytes well-formed.
-pub fn columns_right(bytes: &[u8], c: u32) -> bool
-    ensures { λ r. ⌜ r ≡ columnsRight (now (bytes .entry)) c ⌝ }
+pub fn columns_right(bytes: &[u8], c: Column) -> bool
+    ensures { λ r. ⌜ r ≡ columnsRight (now (bytes .entry)) (c .0) ⌝ }
 {
-    let columns = c as usize;
+    let columns = c.0 as usize;
     if below_128(bytes) {
         return columns == bytes.len();
     }

@@ -2,7 +2,7 @@
 -- Assumes nothing.
 use mathlib.Core.Path.{_≡_, refl, sym, ap, _∙_}
 use Prim.Native.Nat.{ℕ, suc, zero, _+_, _-_, _*_, _≤_, _<_}
-use mathlib.Core.Bool.{Bool, true, false}
+use mathlib.Core.Bool.{true, false}
 use mathlib.Core.List.{List, [], _∷_}
 use native.Mathlib.Omega.{arith}
 use native.Mathlib.Numerals.{add-one, add-two, add-three}
@@ -11,13 +11,17 @@ use lib.ListN.{getD, length, set, length-set}
 use lib.Seq.{getD-set-same, getD-set-other, sets}
 use lib.Dec.{eqb}
 use borrow.Author.Tests.{eq-eqb, ne-eqb}
-use Rattle.table.specs.Pick.{pick}
-use Rattle.rules.specs.Layout.{Page}
+use Rattle.rules.specs.Layout.{Page, flat}
 use Rattle.machine.specs.Waiting.{Saved, Entry, node, trial, mark, nextIndent}
-use Rattle.machine.specs.Fit.{Item, item, reread}
+use Rattle.machine.specs.Fit.{reread}
 use Rattle.machine.specs.Turn.{giveUp}
 use Rattle.machine.specs.Well.{Nodes}
-use Rattle.waiting.specs.Stack.{modeOf, flagOf, savedOf, entryOf, savedAt, entryAt, stackOf, itemsOf, Same, FitPushed, tagOf, from, Nearest}
+use Rattle.waiting.specs.Stack.{modeOf, savedOf, entryOf, savedAt, entryAt, stackOf, itemsOf, Same, FitPushed, tagOf, from}
+
+-- a mode that is not 0
+pub flat-mode : (m : ℕ) → (m ≡ 0 → ⊥) → modeOf m ≡ flat
+flat-mode zero h = absurd (h refl)
+flat-mode (suc m) h = refl
 
 pub length-stack : (d : ℕ) (w : List ℕ) → length (stackOf d w) ≡ d
 length-stack zero w = refl
@@ -28,10 +32,25 @@ length-items m zero w = refl
 length-items m (suc k) w = ap suc (length-items m k w)
 
 -- the top, where something waits
-pub stack-top : (w : List ℕ) (d : ℕ) → 0 < d → stackOf d w ≡ entryAt w (d - 1) ∷ stackOf (d - 1) w
+stack-top : (w : List ℕ) (d : ℕ) → 0 < d → stackOf d w ≡ entryAt w (d - 1) ∷ stackOf (d - 1) w
 stack-top w d lt =
     let e : d ≡ suc (d - 1) = omega arith in
     ap (λ (k : ℕ). stackOf k w) e
+
+-- and what it is by its tag: a node, the end of a trial, else that of an annotation
+pub node-top : (w : List ℕ) (d : ℕ) → 0 < d → getD w ((d - 1) * 4 + 3) 0 ≡ 0 → stackOf d w ≡ node (getD w ((d - 1) * 4) 0) (getD w ((d - 1) * 4 + 1) 0) (modeOf (getD w ((d - 1) * 4 + 2) 0)) ∷ stackOf (d - 1) w
+node-top w d lt t = stack-top w d lt ∙ rw t
+
+pub trial-top : (w : List ℕ) (d : ℕ) → 0 < d → getD w ((d - 1) * 4 + 3) 0 ≡ 1 → stackOf d w ≡ trial (getD w ((d - 1) * 4) 0) (getD w ((d - 1) * 4 + 1) 0) (modeOf (getD w ((d - 1) * 4 + 2) 0)) (savedAt w (d - 1)) ∷ stackOf (d - 1) w
+trial-top w d lt t = stack-top w d lt ∙ rw t
+
+mark-entry : (t n i m : ℕ) (v : Saved) → (t ≡ 0 → ⊥) → (t ≡ 1 → ⊥) → entryOf t n i m v ≡ mark n i
+mark-entry zero n i m v h g = absurd (h refl)
+mark-entry (suc zero) n i m v h g = absurd (g refl)
+mark-entry (suc (suc t)) n i m v h g = refl
+
+pub mark-top : (w : List ℕ) (d : ℕ) → 0 < d → (getD w ((d - 1) * 4 + 3) 0 ≡ 0 → ⊥) → (getD w ((d - 1) * 4 + 3) 0 ≡ 1 → ⊥) → stackOf d w ≡ mark (getD w ((d - 1) * 4) 0) (getD w ((d - 1) * 4 + 1) 0) ∷ stackOf (d - 1) w
+mark-top w d lt a b = stack-top w d lt ∙ ap (λ (e : Entry). e ∷ stackOf (d - 1) w) (mark-entry _ _ _ (getD w ((d - 1) * 4 + 2) 0) (savedAt w (d - 1)) a b)
 
 -- ---- areas with the same entries
 
@@ -61,7 +80,7 @@ stack-same (suc d) w w′ p =
     cc
 
 -- a store past the entries below d
-pub same-set : (d : ℕ) (w : List ℕ) (j v : ℕ) → d * 4 ≤ j → (4096 ≤ j → 4096 + d * 4 ≤ j) → d ≤ 1024 → Same d w (set w j v)
+same-set : (d : ℕ) (w : List ℕ) (j v : ℕ) → d * 4 ≤ j → (4096 ≤ j → 4096 + d * 4 ≤ j) → d ≤ 1024 → Same d w (set w j v)
 same-set d w j v h g le =
     record {
       entries = λ i lt. getD-set-other w j i v 0 (λ (e : i ≡ j). omega arith);

@@ -1,18 +1,15 @@
+-- `fitting::fitting` meets its contract: both walks carry `Walking`, what the fit test says from here is what it says from the start.
+-- Assumes nothing.
 use mathlib.Core.Bool.{true≢false, false≢true}
 use mathlib.Core.Logic.{⊎-elim}
 use Rattle.fitting.proofs.Walk.{Walking, hand, walk-start, node-sound, node-words, count-small, walk-due, walk-down, walk-done, walk-same, walk-yes, walk-no, walk-pop, walk-end, walk-next, walk-fitted}
 use borrow.Author.Needs.{needs}
 use native.Mathlib.Omega.{arith}
-use mathlib.Core.Path.{_≡_, refl, sym, ap, _∙_, subst}
-use mathlib.Core.List.{List, [], _∷_, _++_, map}
-use Prim.Native.Nat.{ℕ, zero, suc, _+_, _-_, _*_, _≤_, _<_, _^_}
-use lib.ListN.{length, getD, take, drop, set, replicate, length-set}
+use mathlib.Core.Path.{sym, _∙_}
+use mathlib.Core.List.{List}
+use Prim.Native.Nat.{ℕ}
 use Rattle.fitting.proofs.fitting.Statement.{statement}
 use Rattle.fitting.proofs.fitting.Tie as tie
-use Rattle.fitting.proofs.fitting.Reads as reads
-use Rattle.fitting.proofs.fitting.Lts as lts
-use Rattle.fitting.proofs.look.Reads as look-reads
-use Rattle.waiting.proofs.nearest.Reads as nearest-reads
 
 abbrev Inv-down : tie.InvT-down
 Inv-down table work₀ width depth left node₀ mode count₀ at col₀ steps₀ work node count col steps = (x c : ℕ) (w : List ℕ) → Walking table width x depth c left w work₀ (hand work₀ (node₀ .0) (mode .0) count₀) at (col₀ .0) steps₀ → Walking table width x depth c left w work (hand work (node .0) (mode .0) count) at (col .0) steps
@@ -26,135 +23,106 @@ Inv-waiting table work₀ width depth left node₀ mode₀ count₀ at₀ col₀
 abbrev μ-waiting : tie.MeasureT-waiting
 μ-waiting table work₀ width depth left node₀ mode₀ count₀ at₀ col₀ steps₀ work node mode count at col steps = at
 
--- src/lib.rt:69:9
 waiting-holds : tie.Need-waiting-holds Inv-down μ-down Inv-waiting μ-waiting
 waiting-holds c = walk-start _ _ _ _ _ _ _ (c .before .before .pre)
 
--- src/lib.rt:70:9
 down-holds : tie.Need-down-holds Inv-down μ-down Inv-waiting μ-waiting
 down-holds c = λ x col w h. h
 
--- src/lib.rt:72:17
 same-length : tie.Need-same-length Inv-down μ-down Inv-waiting μ-waiting
 same-length c = let H = c .before .down .inv _ _ _ (c .before .before .waiting .inv) in H .long
 
--- src/lib.rt:72:17
 returns : tie.Need-returns Inv-down μ-down Inv-waiting μ-waiting
-returns c = let H = c .before .down .inv _ _ _ (c .before .before .waiting .inv) in walk-fitted _ _ _ _ _ _ _ _ _ (H .deep) (H .same) (walk-due _ _ _ _ _ _ _ _ _ (c .before .before .waiting .mode .0) (c .before .down .count) _ _ _ H (c .if1 .taken))
+returns c = let H = c .before .down .inv _ _ _ (c .before .before .waiting .inv) in walk-fitted _ _ _ _ _ _ _ _ _ (H .start .deep) (H .same) (walk-due _ _ _ _ _ _ _ _ _ (c .before .before .waiting .mode .0) (c .before .down .count) _ _ _ H (c .if1 .taken))
 
--- src/lib.rt:74:13
 sub-steps : tie.Need-sub-steps Inv-down μ-down Inv-waiting μ-waiting
 sub-steps c = omega (arith, c .if1 .left)
 
--- src/lib.rt:75:19
 look-requires : tie.Need-look-requires Inv-down μ-down Inv-waiting μ-waiting
-look-requires c κs = let H = c .before .before .down .inv _ _ _ (c .before .before .before .waiting .inv) in (node-words _ _ _ _ _ _ _ _ _ (c .before .before .before .waiting .mode .0) (c .before .before .down .count) _ _ _ H, (node-sound _ _ _ _ _ _ _ _ _ (c .before .before .before .waiting .mode .0) (c .before .before .down .count) _ _ _ H, (H .area, omega (arith, count-small _ _ _ _ _ _ _ _ _ (c .before .before .before .waiting .mode .0) (c .before .before .down .count) _ _ _ H), H .column)))
+look-requires c κs = let H = c .before .before .down .inv _ _ _ (c .before .before .before .waiting .inv) in (node-words _ _ _ _ _ _ _ _ _ (c .before .before .before .waiting .mode .0) (c .before .before .down .count) _ _ _ H, (node-sound _ _ _ _ _ _ _ _ _ (c .before .before .before .waiting .mode .0) (c .before .before .down .count) _ _ _ H, (omega (arith, H .start .area, H .long), omega (arith, count-small _ _ _ _ _ _ _ _ _ (c .before .before .before .waiting .mode .0) (c .before .before .down .count) _ _ _ H), H .column)))
 
--- src/lib.rt:76:28
 enum-known-next : tie.Need-enum-known-next Inv-down μ-down Inv-waiting μ-waiting
 enum-known-next c = search needs
 
--- src/lib.rt:70:9
 down-less : tie.Need-down-less Inv-down μ-down Inv-waiting μ-waiting
 down-less c = omega (arith, c .before .before .before .before .before .before .before .if1 .left)
 
--- src/lib.rt:70:9
 down-again : tie.Need-down-again Inv-down μ-down Inv-waiting μ-waiting
 down-again c = λ x col w h. walk-down _ _ _ _ _ _ _ _ _ _ _ _ _ _ (c .before .before .before .before .before .before .before .before .down .inv x col w h) (c .before .before .before .before .before .before .before .if1 .left) _ _ (c .before .before .before .before .before .look .ensures) (c .before .before .before .before .before .look .kept .1 .0) _ _ (c .before .next .given .1)
 
--- src/lib.rt:80:28
 enum-known-end : tie.Need-enum-known-end Inv-down μ-down Inv-waiting μ-waiting
 enum-known-end c = search needs
 
--- src/lib.rt:85:21
 sub-count : tie.Need-sub-count Inv-down μ-down Inv-waiting μ-waiting
 sub-count c = omega (arith, c .if2 .left)
 
--- src/lib.rt:86:40
 add-t25 : tie.Need-add-t25 Inv-down μ-down Inv-waiting μ-waiting
 add-t25 c = let H = c .before .before .before .before .before .before .before .before .before .down .inv _ _ _ (c .before .before .before .before .before .before .before .before .before .before .waiting .inv) in omega (arith, count-small _ _ _ _ _ _ _ _ _ (c .before .before .before .before .before .before .before .before .before .before .waiting .mode .0) (c .before .before .before .before .before .before .before .before .before .down .count) _ _ _ H)
 
--- src/lib.rt:86:35
 mul-t26 : tie.Need-mul-t26 Inv-down μ-down Inv-waiting μ-waiting
 mul-t26 c = let H = c .before .before .before .before .before .before .before .before .before .down .inv _ _ _ (c .before .before .before .before .before .before .before .before .before .before .waiting .inv) in omega (arith, count-small _ _ _ _ _ _ _ _ _ (c .before .before .before .before .before .before .before .before .before .before .waiting .mode .0) (c .before .before .before .before .before .before .before .before .before .down .count) _ _ _ H)
 
--- src/lib.rt:86:35
 slice-read-t28 : tie.Need-slice-read-t28 Inv-down μ-down Inv-waiting μ-waiting
-slice-read-t28 c = let H = c .before .before .before .before .before .before .before .before .before .before .down .inv _ _ _ (c .before .before .before .before .before .before .before .before .before .before .before .waiting .inv) in omega (arith, count-small _ _ _ _ _ _ _ _ _ (c .before .before .before .before .before .before .before .before .before .before .before .waiting .mode .0) (c .before .before .before .before .before .before .before .before .before .before .down .count) _ _ _ H, H .area, c .before .before .before .before .before .before .before .look .kept .1 .0)
+slice-read-t28 c = let H = c .before .before .before .before .before .before .before .before .before .before .down .inv _ _ _ (c .before .before .before .before .before .before .before .before .before .before .before .waiting .inv) in omega (arith, count-small _ _ _ _ _ _ _ _ _ (c .before .before .before .before .before .before .before .before .before .before .before .waiting .mode .0) (c .before .before .before .before .before .before .before .before .before .before .down .count) _ _ _ H, H .start .area, H .long, c .before .before .before .before .before .before .before .look .kept .1 .0)
 
--- src/lib.rt:70:9
 down-less-2 : tie.Need-down-less-2 Inv-down μ-down Inv-waiting μ-waiting
 down-less-2 c = omega (arith, c .before .before .before .before .before .before .before .before .before .if1 .left)
 
--- src/lib.rt:70:9
 down-again-2 : tie.Need-down-again-2 Inv-down μ-down Inv-waiting μ-waiting
 down-again-2 c = λ x col w h. walk-pop _ _ _ _ _ _ _ _ _ _ _ _ _ (c .before .if2 .left) (walk-done _ _ _ _ _ _ _ _ _ _ _ _ _ _ (c .before .before .before .before .before .before .before .before .before .before .down .inv x col w h) (c .before .before .before .before .before .before .before .before .before .if1 .left) _ _ (c .before .before .before .before .before .before .before .look .ensures) (c .before .before .before .before .before .before .before .look .kept .1 .0) _ (c .before .before .before .end .given .1))
 
--- src/lib.rt:88:46
 enum-told : tie.Need-enum-told Inv-down μ-down Inv-waiting μ-waiting
 enum-told c = search needs
 
--- src/lib.rt:89:46
 enum-told-2 : tie.Need-enum-told-2 Inv-down μ-down Inv-waiting μ-waiting
 enum-told-2 c = search needs
 
--- src/lib.rt:92:13
 nearest-requires : tie.Need-nearest-requires Inv-down μ-down Inv-waiting μ-waiting
-nearest-requires c κs = let H = c .before .before .before .before .before .before .before .before .before .before .down .inv _ _ _ (c .before .before .before .before .before .before .before .before .before .before .before .waiting .inv) in (omega (arith, H .at, H .deep), omega (arith, H .area, c .before .before .before .before .before .before .before .look .kept .1 .0), omega arith)
+nearest-requires c κs = let H = c .before .before .before .before .before .before .before .before .before .before .down .inv _ _ _ (c .before .before .before .before .before .before .before .before .before .before .before .waiting .inv) in (omega (arith, H .at, H .start .deep), omega (arith, H .start .area, H .long, c .before .before .before .before .before .before .before .look .kept .1 .0), omega arith)
 
--- src/lib.rt:96:14
 sub-at : tie.Need-sub-at Inv-down μ-down Inv-waiting μ-waiting
 sub-at c = omega (arith, c .if3 .left)
 
--- src/lib.rt:97:28
 mul-t32 : tie.Need-mul-t32 Inv-down μ-down Inv-waiting μ-waiting
-mul-t32 c = let H = c .before .before .before .before .before .before .before .before .before .before .before .before .down .inv _ _ _ (c .before .before .before .before .before .before .before .before .before .before .before .before .before .waiting .inv) in omega (arith, H .at, H .deep, c .before .nearest .ensures .within)
+mul-t32 c = let H = c .before .before .before .before .before .before .before .before .before .before .before .before .down .inv _ _ _ (c .before .before .before .before .before .before .before .before .before .before .before .before .before .waiting .inv) in omega (arith, H .at, H .start .deep, c .before .nearest .ensures .within)
 
--- src/lib.rt:97:23
 mul-t33 : tie.Need-mul-t33 Inv-down μ-down Inv-waiting μ-waiting
-mul-t33 c = let H = c .before .before .before .before .before .before .before .before .before .before .before .before .down .inv _ _ _ (c .before .before .before .before .before .before .before .before .before .before .before .before .before .waiting .inv) in omega (arith, H .at, H .deep, c .before .nearest .ensures .within)
+mul-t33 c = let H = c .before .before .before .before .before .before .before .before .before .before .before .before .down .inv _ _ _ (c .before .before .before .before .before .before .before .before .before .before .before .before .before .waiting .inv) in omega (arith, H .at, H .start .deep, c .before .nearest .ensures .within)
 
--- src/lib.rt:97:23
 slice-read-t35 : tie.Need-slice-read-t35 Inv-down μ-down Inv-waiting μ-waiting
-slice-read-t35 c = let H = c .before .before .before .before .before .before .before .before .before .before .before .before .before .down .inv _ _ _ (c .before .before .before .before .before .before .before .before .before .before .before .before .before .before .waiting .inv) in omega (arith, H .at, H .deep, c .before .before .nearest .ensures .within, H .area, c .before .before .before .before .before .before .before .before .before .before .look .kept .1 .0)
+slice-read-t35 c = let H = c .before .before .before .before .before .before .before .before .before .before .before .before .before .down .inv _ _ _ (c .before .before .before .before .before .before .before .before .before .before .before .before .before .before .waiting .inv) in omega (arith, H .at, H .start .deep, c .before .before .nearest .ensures .within, H .start .area, H .long, c .before .before .before .before .before .before .before .before .before .before .look .kept .1 .0)
 
--- src/lib.rt:69:9
 waiting-less : tie.Need-waiting-less Inv-down μ-down Inv-waiting μ-waiting
 waiting-less c = omega (arith, c .before .before .nearest .ensures .within, c .before .if3 .left)
 
--- src/lib.rt:69:9
 waiting-again : tie.Need-waiting-again Inv-down μ-down Inv-waiting μ-waiting
 waiting-again c = let H = c .before .before .before .before .before .before .before .before .before .before .before .before .before .down .inv _ _ _ (c .before .before .before .before .before .before .before .before .before .before .before .before .before .before .waiting .inv) in
     let D = walk-done _ _ _ _ _ _ _ _ _ _ _ _ _ _ H (c .before .before .before .before .before .before .before .before .before .before .before .before .if1 .left) _ _ (c .before .before .before .before .before .before .before .before .before .before .look .ensures) (c .before .before .before .before .before .before .before .before .before .before .look .kept .1 .0) _ (c .before .before .before .before .before .before .end .given .1) in
     walk-next _ _ _ _ _ _ _ _ (c .before .before .before .before .before .before .before .before .before .before .before .before .before .before .waiting .mode .0) _ _ _ _ _ (c .before .before .before .before .if2 .taken) D (c .before .before .nearest .ensures) (c .before .if3 .left)
 
--- src/lib.rt:59:1
 same-length-2 : tie.Need-same-length-2 Inv-down μ-down Inv-waiting μ-waiting
 same-length-2 c = let H = c .before .before .before .before .before .before .before .down .inv _ _ _ (c .before .before .before .before .before .before .before .before .waiting .inv) in c .before .before .before .before .look .kept .1 .0 ∙ H .long
 
--- src/lib.rt:59:1
 returns-2 : tie.Need-returns-2 Inv-down μ-down Inv-waiting μ-waiting
 returns-2 c = let H = c .before .before .before .before .before .before .before .down .inv _ _ _ (c .before .before .before .before .before .before .before .before .waiting .inv) in
     let p = c .before .before .before .before .look .ensures in
     let e = c .before .before .before .before .look .kept .1 .0 in
     let s = walk-same _ _ _ _ _ _ _ _ _ _ _ _ _ _ H (c .before .before .before .before .before .before .if1 .left) _ _ p e in
-    walk-fitted _ _ _ _ _ _ _ _ _ (H .deep) s
+    walk-fitted _ _ _ _ _ _ _ _ _ (H .start .deep) s
     (⊎-elim (λ v. walk-yes _ _ _ _ _ _ _ _ _ _ _ _ _ _ H (c .before .before .before .before .before .before .if1 .left) _ _ p e (v .1 .given .1))
     (⊎-elim (λ v. absurd (false≢true (sym (v .2) ∙ c .if4 .taken)))
     (λ v. walk-end _ _ _ _ _ _ _ _ (c .before .before .before .before .before .before .before .before .waiting .mode .0) _ _ _ _ _ (v .3 .taken) (walk-done _ _ _ _ _ _ _ _ _ _ _ _ _ _ H (c .before .before .before .before .before .before .if1 .left) _ _ p e _ (v .1 .given .1)) (v .5 .ensures) (v .6 .taken)))
     (c .before .match .came))
 
--- src/lib.rt:59:1
 same-length-3 : tie.Need-same-length-3 Inv-down μ-down Inv-waiting μ-waiting
 same-length-3 c = let H = c .before .before .before .before .before .before .before .down .inv _ _ _ (c .before .before .before .before .before .before .before .before .waiting .inv) in c .before .before .before .before .look .kept .1 .0 ∙ H .long
 
--- src/lib.rt:59:1
 returns-3 : tie.Need-returns-3 Inv-down μ-down Inv-waiting μ-waiting
 returns-3 c = let H = c .before .before .before .before .before .before .before .down .inv _ _ _ (c .before .before .before .before .before .before .before .before .waiting .inv) in
     let p = c .before .before .before .before .look .ensures in
     let e = c .before .before .before .before .look .kept .1 .0 in
     let s = walk-same _ _ _ _ _ _ _ _ _ _ _ _ _ _ H (c .before .before .before .before .before .before .if1 .left) _ _ p e in
-    walk-fitted _ _ _ _ _ _ _ _ _ (H .deep) s
+    walk-fitted _ _ _ _ _ _ _ _ _ (H .start .deep) s
     (⊎-elim (λ v. absurd (true≢false (sym (v .2) ∙ c .if4 .left)))
     (⊎-elim (λ v. walk-no _ _ _ _ _ _ _ _ _ _ _ _ _ _ H (c .before .before .before .before .before .before .if1 .left) _ _ p e (v .1 .given .1))
     (λ v. absurd (true≢false (sym (v .7) ∙ c .if4 .left))))

@@ -1,127 +1,95 @@
+-- `fitting::look` meets its contract: an arm for each kind, by the law that Arms.antt has for it.
+-- Assumes nothing.
 use mathlib.Core.Logic.{inl, inr}
-use Rattle.fitting.proofs.Nodes.{node-is, node-fail, text-columns}
-use Rattle.fitting.proofs.Arms.{flat-mode, look-nil, look-append, look-one, look-through, look-flatAlt, look-hardline, look-hardline-flat, look-text, look-text-past, look-fail}
+use Rattle.waiting.proofs.Laws.{flat-mode}
+use Rattle.table.proofs.Nodes.{node-is, node-fail, text-columns}
+use Rattle.fitting.proofs.Arms.{look-nil, look-append, look-one, look-through, look-flatAlt, look-hardline, look-hardline-flat, look-text, look-text-past, look-fail}
 use borrow.Author.Needs.{needs}
 use native.Mathlib.Omega.{arith}
-use mathlib.Core.Path.{_≡_, refl, sym, ap, _∙_, subst}
-use mathlib.Core.List.{List, [], _∷_, _++_, map}
-use Prim.Native.Nat.{ℕ, zero, suc, _+_, _-_, _*_, _≤_, _<_, _^_}
-use lib.ListN.{length, getD, take, drop, set, replicate, length-set}
 use Rattle.fitting.proofs.look.Statement.{statement}
 use Rattle.fitting.proofs.look.Tie as tie
-use Rattle.fitting.proofs.look.Reads as reads
-use Rattle.fitting.proofs.look.Lts as lts
-use Rattle.waiting.proofs.push_fit.Reads as push-fit-reads
 
--- src/lib.rt:36:15
 cast-at : tie.Need-cast-at
 cast-at c = search needs
 
--- src/lib.rt:36:14
 mul-at : tie.Need-mul-at
 mul-at c = search needs
 
--- src/lib.rt:37:16
 mul-kind : tie.Need-mul-kind
 mul-kind c = search needs
 
--- src/lib.rt:37:16
 shared-slice-read-kind : tie.Need-shared-slice-read-kind
 shared-slice-read-kind c = search needs
 
--- src/lib.rt:38:19
 add-a : tie.Need-add-a
 add-a c = search needs
 
--- src/lib.rt:38:13
 mul-a : tie.Need-mul-a
 mul-a c = search needs
 
--- src/lib.rt:38:13
 shared-slice-read-a : tie.Need-shared-slice-read-a
 shared-slice-read-a c = search needs
 
--- src/lib.rt:39:19
 add-b : tie.Need-add-b
 add-b c = search needs
 
--- src/lib.rt:39:13
 mul-b : tie.Need-mul-b
 mul-b c = search needs
 
--- src/lib.rt:39:13
 shared-slice-read-b : tie.Need-shared-slice-read-b
 shared-slice-read-b c = search needs
 
--- src/lib.rt:43:13
 push-fit-requires : tie.Need-push-fit-requires
 push-fit-requires c κs = search needs
 
--- src/lib.rt:44:35
 add-t24 : tie.Need-add-t24
 add-t24 c = search needs
 
--- src/lib.rt:50:40
 add-end : tie.Need-add-end
 add-end c = search needs
 
--- src/lib.rt:50:34
 mul-end : tie.Need-mul-end
 mul-end c = search needs
 
--- src/lib.rt:50:34
 shared-slice-read-end : tie.Need-shared-slice-read-end
 shared-slice-read-end c = search needs
 
--- src/lib.rt:50:23
 add-end-2 : tie.Need-add-end-2
 add-end-2 c = let s = c .before .before .before .before .before .before .before .before .before in omega (arith, text-columns (s .args .table .now) 65536 (s .args .node .0) (c .before .before .match .keys6) (s .pre .1 .0))
 
--- src/lib.rt:30:1
 returns : tie.Need-returns
 returns c = look-nil _ _ _ _ _ _ _ (c .match .keys1)
 
--- src/lib.rt:30:1
 same-length : tie.Need-same-length
 same-length c = search needs
 
--- src/lib.rt:30:1
 returns-2 : tie.Need-returns-2
 returns-2 c = look-append _ _ _ _ _ _ _ _ (c .before .before .before .before .match .keys2) (c .before .before .push-fit .ensures)
 
--- src/lib.rt:30:1
 returns-3 : tie.Need-returns-3
 returns-3 c = look-one _ _ _ _ _ _ _ (c .match .keys3)
 
--- src/lib.rt:30:1
 returns-4 : tie.Need-returns-4
 returns-4 c = let s = c .before .before .before .before .before .before .before .before .before in look-flatAlt _ _ _ (s .args .mode .0) _ _ _ _ (c .before .before .match .keys4) (rw (c .if1 .taken))
 
--- src/lib.rt:30:1
 returns-5 : tie.Need-returns-5
 returns-5 c = let s = c .before .before .before .before .before .before .before .before .before in look-flatAlt _ _ _ (s .args .mode .0) _ _ _ _ (c .before .before .match .keys4) (rw (flat-mode _ (c .if1 .left)))
 
--- src/lib.rt:30:1
 returns-6 : tie.Need-returns-6
 returns-6 c = look-hardline _ _ _ _ _ _ _ (c .before .before .match .keys5) (c .if2 .taken)
 
--- src/lib.rt:30:1
 returns-7 : tie.Need-returns-7
 returns-7 c = look-hardline-flat _ _ _ _ _ _ _ (c .before .before .match .keys5) (c .if2 .left)
 
--- src/lib.rt:30:1
 returns-8 : tie.Need-returns-8
 returns-8 c = look-text _ _ _ _ _ _ _ (c .before .before .before .match .keys6) (c .if3 .taken)
 
--- src/lib.rt:30:1
 returns-9 : tie.Need-returns-9
 returns-9 c = look-text-past _ _ _ _ _ _ _ (c .before .before .before .match .keys6) (c .if3 .left)
 
--- src/lib.rt:30:1
 returns-10 : tie.Need-returns-10
 returns-10 c = look-through _ _ _ _ _ _ _ _ (λ is left. rw (node-is _ _ 8 (c .match .keys7)))
 
--- src/lib.rt:30:1
 returns-11 : tie.Need-returns-11
 returns-11 c = let h = c .match .rest in
     let g = h .0 .0 .0 .0 .1 in

@@ -1,63 +1,44 @@
+-- `lay::lay_group` meets its contract: met flat by `group-flat`, else by what the fit test says.
+-- Assumes nothing.
 use Rattle.lay.proofs.Arms.{group-flat, group-yes, group-no, group-due}
 use Rattle.waiting.proofs.Laws.{stack-same, same-less}
 use borrow.Author.Needs.{needs}
-use native.Mathlib.Omega.{arith}
-use mathlib.Core.Path.{_≡_, refl, sym, ap, _∙_, subst}
-use mathlib.Core.List.{List, [], _∷_, _++_, map}
-use Prim.Native.Nat.{ℕ, zero, suc, _+_, _-_, _*_, _≤_, _<_, _^_}
-use lib.ListN.{length, getD, take, drop, set, replicate, length-set}
 use Rattle.lay.proofs.lay_group.Statement.{statement}
 use Rattle.lay.proofs.lay_group.Tie as tie
-use Rattle.lay.proofs.lay_group.Reads as reads
-use Rattle.lay.proofs.lay_group.Lts as lts
-use Rattle.fitting.proofs.fitting.Reads as fitting-reads
-use Rattle.lay.proofs.child_of.Reads as child-of-reads
 
--- src/lib.rt:159:25
 child-of-requires : tie.Need-child-of-requires
 child-of-requires c κs = search needs
 
--- src/lib.rt:159:9
 returns : tie.Need-returns
 returns c = let s = c .before .before .before .before .before in group-flat _ _ _ _ _ (s .args .hand .mode .0) (s .args .s) _ (c .before .if1 .taken) (c .child-of .ensures)
 
--- src/lib.rt:165:11
 fitting-requires : tie.Need-fitting-requires
 fitting-requires c κs = search needs
 
--- src/lib.rt:166:18
 enum-known-left : tie.Need-enum-known-left
 enum-known-left c = search needs
 
--- src/lib.rt:177:17
 enum-known-left-2 : tie.Need-enum-known-left-2
 enum-known-left-2 c = search needs
 
--- src/lib.rt:188:18
 enum-known-node : tie.Need-enum-known-node
 enum-known-node c = search needs
 
--- src/lib.rt:154:1
 same-length : tie.Need-same-length
 same-length c = search needs
 
--- src/lib.rt:154:1
 returns-2 : tie.Need-returns-2
 returns-2 c = let s = c .before .before .before .before .before .before .before .before .before .before .before .before .before in let f = c .before .before .before .before .before .fitting .ensures in group-yes _ _ _ _ _ _ (s .args .hand .mode .0) (s .args .s) _ (c .before .before .before .before .before .before .before .before .before .if1 .left) (stack-same _ _ _ (same-less _ 1024 _ _ (s .pre .deep) (f .same))) f _ (c .before .left .given .1)
 
--- src/lib.rt:154:1
 same-length-2 : tie.Need-same-length-2
 same-length-2 c = search needs
 
--- src/lib.rt:154:1
 returns-3 : tie.Need-returns-3
 returns-3 c = let s = c .before .before .before .before .before .before .before .before .before .before .before .before .before in let f = c .before .before .before .before .before .fitting .ensures in group-no _ _ _ _ _ _ (s .args .hand .mode .0) (s .args .s) _ (c .before .before .before .before .before .before .before .before .before .if1 .left) (stack-same _ _ _ (same-less _ 1024 _ _ (s .pre .deep) (f .same))) f _ (c .before .left2 .given .1)
 
--- src/lib.rt:154:1
 same-length-3 : tie.Need-same-length-3
 same-length-3 c = search needs
 
--- src/lib.rt:154:1
 returns-4 : tie.Need-returns-4
 returns-4 c = let s = c .before .before .before .before .before .before .before .before .before .before .before .before .before in let f = c .before .before .before .before .before .fitting .ensures in group-due _ _ _ _ _ _ (s .args .hand .mode .0) (s .args .s) _ (c .before .before .before .before .before .before .before .before .before .if1 .left) (stack-same _ _ _ (same-less _ 1024 _ _ (s .pre .deep) (f .same))) f _ (c .before .node .given .1)
 

@@ -1,4 +1,5 @@
-use Rattle.rules.specs.Layout.{Page}
+-- `lay::lay_text` meets its contract: `put-no` where the bytes don't fit, `put-yes` where they do; `over-set` and `over-kept` say the flag.
+-- Assumes nothing.
 use mathlib.Core.Logic.{⊎-elim}
 use lib.ListN.{length-take, length-drop}
 use lib.Dec.{ltb}
@@ -7,45 +8,32 @@ use Rattle.waiting.specs.Stack.{flagOf}
 use Rattle.lay.proofs.Arms.{put-no, put-yes, over-set, over-kept}
 use borrow.Author.Needs.{needs}
 use native.Mathlib.Omega.{arith}
-use mathlib.Core.Path.{_≡_, refl, sym, ap, _∙_, subst}
-use mathlib.Core.List.{List, [], _∷_, _++_, map}
-use Prim.Native.Nat.{ℕ, zero, suc, _+_, _-_, _*_, _≤_, _<_, _^_}
-use lib.ListN.{length, getD, take, drop, set, replicate, length-set}
+use mathlib.Core.Path.{_≡_, refl}
+use Prim.Native.Nat.{_+_}
 use Rattle.lay.proofs.lay_text.Statement.{statement}
 use Rattle.lay.proofs.lay_text.Tie as tie
-use Rattle.lay.proofs.lay_text.Reads as reads
-use Rattle.lay.proofs.lay_text.Lts as lts
-use Rattle.buffer.proofs.copy_bytes.Reads as copy-bytes-reads
 
--- src/lib.rt:47:16
 cast-used : tie.Need-cast-used
 cast-used c = search needs
 
--- src/lib.rt:49:8
 sub-if1 : tie.Need-sub-if1
 sub-if1 c = search needs
 
--- src/lib.rt:50:9
 returns : tie.Need-returns
 returns c = let s = c .before .before .before .before in put-no (s .args .s) _ _ (s .args .len) (λ p. p .column + s .args .columns) (simp (length-take, length-drop) (omega arith)) (omega arith) _ (omega arith)
 
--- src/lib.rt:52:5
 copy-bytes-requires : tie.Need-copy-bytes-requires
 copy-bytes-requires c κs = search needs
 
--- src/lib.rt:53:15
 add-end : tie.Need-add-end
 add-end c = search needs
 
--- src/lib.rt:57:15
 add-t21 : tie.Need-add-t21
 add-t21 c = search needs
 
--- src/lib.rt:43:1
 same-length : tie.Need-same-length
 same-length c = search needs
 
--- src/lib.rt:43:1
 returns-2 : tie.Need-returns-2
 returns-2 c = let s = c .before .before .before .before .before .before .before .before .before .before .before in
     let eo : flagOf (c .before .if2 .over) ≡ flagOf (s .args .s .over) || ltb (s .args .width) (s .args .s .column .0 + s .args .columns) =

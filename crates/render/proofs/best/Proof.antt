@@ -1,18 +1,16 @@
+-- `render::best` meets its contract: the loop carries `Going`, the run from here is the layout from the root; its measure falls by `going-less`.
+-- Assumes nothing.
 use Rattle.machine.specs.Well.{weight}
 use Rattle.waiting.specs.Stack.{stackOf}
 use Rattle.lay.specs.State.{top}
 use Rattle.render.proofs.Going.{Going, going-start, going-ready, going-on, going-less, laid-due, laid-done, laid-stop}
 use borrow.Author.Needs.{needs}
 use native.Mathlib.Omega.{arith}
-use mathlib.Core.Path.{_≡_, refl, sym, ap, _∙_, subst}
-use mathlib.Core.List.{List, [], _∷_, _++_, map}
-use Prim.Native.Nat.{ℕ, zero, suc, _+_, _-_, _*_, _≤_, _<_, _^_}
-use lib.ListN.{length, getD, take, drop, set, replicate, length-set}
+use mathlib.Core.Path.{_∙_}
+use mathlib.Core.List.{_∷_}
+use Prim.Native.Nat.{_+_, _*_}
 use Rattle.render.proofs.best.Statement.{statement}
 use Rattle.render.proofs.best.Tie as tie
-use Rattle.render.proofs.best.Reads as reads
-use Rattle.render.proofs.best.Lts as lts
-use Rattle.render.proofs.turn.Reads as turn-reads
 
 abbrev Inv-loop : tie.InvT-loop
 Inv-loop table text out₀ events₀ work₀ width limit nodes hand₀ s₀ out events work hand s = Going table text width limit nodes out₀ events₀ work₀ out events work hand s
@@ -20,87 +18,66 @@ Inv-loop table text out₀ events₀ work₀ width limit nodes hand₀ s₀ out 
 abbrev μ-loop : tie.MeasureT-loop
 μ-loop table text out₀ events₀ work₀ width limit nodes hand₀ s₀ out events work hand s = 3 * s .left + weight (top hand ∷ stackOf (s .depth) work)
 
--- src/lib.rt:105:22
 sub-t18 : tie.Need-sub-t18 Inv-loop μ-loop
 sub-t18 c = omega (arith, c .before .before .before .before .before .pre .some)
 
--- src/lib.rt:117:5
 loop-holds : tie.Need-loop-holds Inv-loop μ-loop
 loop-holds c = going-start _ _ _ _ _ _ _ _ (c .before .before .before .before .before .pre)
 
--- src/lib.rt:120:13
 same-length : tie.Need-same-length Inv-loop μ-loop
 same-length c = c .before .before .before .loop .inv .outs
 
--- src/lib.rt:120:13
 same-length-2 : tie.Need-same-length-2 Inv-loop μ-loop
 same-length-2 c = c .before .before .before .loop .inv .evs
 
--- src/lib.rt:120:13
 same-length-3 : tie.Need-same-length-3 Inv-loop μ-loop
 same-length-3 c = c .before .before .before .loop .inv .works
 
--- src/lib.rt:120:13
 returns : tie.Need-returns Inv-loop μ-loop
 returns c = laid-due _ _ _ _ _ _ _ _ _ _ _ _ _ (c .before .before .before .loop .inv) (c .before .if1 .taken)
 
--- src/lib.rt:128:18
 sub-s : tie.Need-sub-s Inv-loop μ-loop
 sub-s c = omega (arith, c .before .if1 .left)
 
--- src/lib.rt:129:15
 turn-requires : tie.Need-turn-requires Inv-loop μ-loop
 turn-requires c κs = going-ready _ _ _ _ _ _ _ _ _ _ _ _ _ (c .before .before .before .before .before .before .loop .inv) (c .before .before .before .before .if1 .left)
 
--- src/lib.rt:130:22
 enum-known-next : tie.Need-enum-known-next Inv-loop μ-loop
 enum-known-next c = search needs
 
--- src/lib.rt:117:5
 loop-less : tie.Need-loop-less Inv-loop μ-loop
 loop-less c = going-less _ _ _ _ _ _ _ _ _ _ _ _ _ (c .before .before .before .before .before .before .before .before .before .before .before .before .before .before .before .before .loop .inv) (c .before .before .before .before .before .before .before .before .before .before .before .before .before .before .if1 .left) _ _ _ _ (c .before .before .before .before .before .before .before .before .before .turn .ensures) (c .before .before .before .before .before .before .before .before .before .turn .kept .1 .1 .0) (c .before .before .before .before .before .before .before .before .before .turn .kept .1 .1 .1 .0) (c .before .before .before .before .before .before .before .before .before .turn .kept .1 .1 .1 .1 .0) _ _ (c .before .next .given .1)
 
--- src/lib.rt:117:5
 loop-again : tie.Need-loop-again Inv-loop μ-loop
 loop-again c = going-on _ _ _ _ _ _ _ _ _ _ _ _ _ (c .before .before .before .before .before .before .before .before .before .before .before .before .before .before .before .before .loop .inv) (c .before .before .before .before .before .before .before .before .before .before .before .before .before .before .if1 .left) _ _ _ _ (c .before .before .before .before .before .before .before .before .before .turn .ensures) (c .before .before .before .before .before .before .before .before .before .turn .kept .1 .1 .0) (c .before .before .before .before .before .before .before .before .before .turn .kept .1 .1 .1 .0) (c .before .before .before .before .before .before .before .before .before .turn .kept .1 .1 .1 .1 .0) _ _ (c .before .next .given .1)
 
--- src/lib.rt:134:24
 enum-known-on : tie.Need-enum-known-on Inv-loop μ-loop
 enum-known-on c = search needs
 
--- src/lib.rt:135:17
 same-length-4 : tie.Need-same-length-4 Inv-loop μ-loop
 same-length-4 c = c .before .before .before .before .before .before .before .before .before .turn .kept .1 .1 .0 ∙ c .before .before .before .before .before .before .before .before .before .before .before .before .before .before .before .before .loop .inv .outs
 
--- src/lib.rt:135:17
 same-length-5 : tie.Need-same-length-5 Inv-loop μ-loop
 same-length-5 c = c .before .before .before .before .before .before .before .before .before .turn .kept .1 .1 .1 .0 ∙ c .before .before .before .before .before .before .before .before .before .before .before .before .before .before .before .before .loop .inv .evs
 
--- src/lib.rt:135:17
 same-length-6 : tie.Need-same-length-6 Inv-loop μ-loop
 same-length-6 c = c .before .before .before .before .before .before .before .before .before .turn .kept .1 .1 .1 .1 .0 ∙ c .before .before .before .before .before .before .before .before .before .before .before .before .before .before .before .before .loop .inv .works
 
--- src/lib.rt:135:17
 returns-2 : tie.Need-returns-2 Inv-loop μ-loop
 returns-2 c = laid-done _ _ _ _ _ _ _ _ _ _ _ _ _ (c .before .before .before .before .before .before .before .before .before .before .before .before .before .before .before .before .loop .inv) (c .before .before .before .before .before .before .before .before .before .before .before .before .before .before .if1 .left) _ _ _ _ (c .before .before .before .before .before .before .before .before .before .turn .ensures) (c .before .before .before .before .before .before .before .before .before .turn .kept .1 .1 .0) (c .before .before .before .before .before .before .before .before .before .turn .kept .1 .1 .1 .0) (c .before .before .before .before .before .before .before .before .before .turn .kept .1 .1 .1 .1 .0) _ (c .before .on .given .1)
 
--- src/lib.rt:143:24
 enum-known-answer : tie.Need-enum-known-answer Inv-loop μ-loop
 enum-known-answer c = search needs
 
--- src/lib.rt:144:17
 same-length-7 : tie.Need-same-length-7 Inv-loop μ-loop
 same-length-7 c = c .before .before .before .before .before .before .before .before .before .turn .kept .1 .1 .0 ∙ c .before .before .before .before .before .before .before .before .before .before .before .before .before .before .before .before .loop .inv .outs
 
--- src/lib.rt:144:17
 same-length-8 : tie.Need-same-length-8 Inv-loop μ-loop
 same-length-8 c = c .before .before .before .before .before .before .before .before .before .turn .kept .1 .1 .1 .0 ∙ c .before .before .before .before .before .before .before .before .before .before .before .before .before .before .before .before .loop .inv .evs
 
--- src/lib.rt:144:17
 same-length-9 : tie.Need-same-length-9 Inv-loop μ-loop
 same-length-9 c = c .before .before .before .before .before .before .before .before .before .turn .kept .1 .1 .1 .1 .0 ∙ c .before .before .before .before .before .before .before .before .before .before .before .before .before .before .before .before .loop .inv .works
 
--- src/lib.rt:144:17
 returns-3 : tie.Need-returns-3 Inv-loop μ-loop
 returns-3 c = laid-stop _ _ _ _ _ _ _ _ _ _ _ _ _ (c .before .before .before .before .before .before .before .before .before .before .before .before .before .before .before .before .loop .inv) (c .before .before .before .before .before .before .before .before .before .before .before .before .before .before .if1 .left) _ _ _ _ (c .before .before .before .before .before .before .before .before .before .turn .ensures) (c .before .before .before .before .before .before .before .before .before .turn .kept .1 .1 .0) (c .before .before .before .before .before .before .before .before .before .turn .kept .1 .1 .1 .0) (c .before .before .before .before .before .before .before .before .before .turn .kept .1 .1 .1 .1 .0) _ _ _ (c .before .answer .given .1)
 

@@ -1,82 +1,59 @@
+-- `render::turn` meets its contract: where the visit leads, and from a node that is done what is taken up.
+-- Assumes nothing.
 use Rattle.render.proofs.Turns.{turn-go, turn-stop, turn-done, done-ready}
 use borrow.Author.Needs.{needs}
-use native.Mathlib.Omega.{arith}
-use mathlib.Core.Path.{_≡_, refl, sym, ap, _∙_, subst}
-use mathlib.Core.List.{List, [], _∷_, _++_, map}
-use Prim.Native.Nat.{ℕ, zero, suc, _+_, _-_, _*_, _≤_, _<_, _^_}
-use lib.ListN.{length, getD, take, drop, set, replicate, length-set}
+use mathlib.Core.Path.{_∙_}
 use Rattle.render.proofs.turn.Statement.{statement}
 use Rattle.render.proofs.turn.Tie as tie
-use Rattle.render.proofs.turn.Reads as reads
-use Rattle.render.proofs.turn.Lts as lts
-use Rattle.render.proofs.take_up.Reads as take-up-reads
-use Rattle.render.proofs.visit.Reads as visit-reads
 
--- src/lib.rt:92:11
 visit-requires : tie.Need-visit-requires
 visit-requires c κs = search needs
 
--- src/lib.rt:93:18
 enum-known-next : tie.Need-enum-known-next
 enum-known-next c = search needs
 
--- src/lib.rt:94:20
 enum-known-on : tie.Need-enum-known-on
 enum-known-on c = search needs
 
--- src/lib.rt:94:27
 take-up-requires : tie.Need-take-up-requires
 take-up-requires c κs = let s = c .before .before .before .before .before .before .before .before .before .before .before .before .before .before .before .before .before .before .before .before in let v = c .before .before .before .before .before .before .before .before .before .before .before .visit in done-ready _ _ _ _ _ _ _ _ (s .pre) _ _ _ _ (v .ensures) _ (c .before .before .before .on .given .1) (v .kept .1 .1 .1 .0) (v .kept .1 .1 .1 .1 .0)
 
--- src/lib.rt:95:20
 enum-known-answer : tie.Need-enum-known-answer
 enum-known-answer c = search needs
 
--- src/lib.rt:88:1
 same-length : tie.Need-same-length
 same-length c = c .before .before .before .before .before .before .before .before .before .visit .kept .1 .1 .0
 
--- src/lib.rt:88:1
 same-length-2 : tie.Need-same-length-2
 same-length-2 c = c .before .before .before .before .before .before .before .before .before .visit .kept .1 .1 .1 .0
 
--- src/lib.rt:88:1
 same-length-3 : tie.Need-same-length-3
 same-length-3 c = c .before .before .before .before .before .before .before .before .before .visit .kept .1 .1 .1 .1 .0
 
--- src/lib.rt:88:1
 returns : tie.Need-returns
 returns c = let s = c .before .before .before .before .before .before .before .before .before .before .before .before .before .before .before .before .before .before in turn-go _ _ _ _ _ _ _ _ (s .pre) _ _ _ _ (c .before .before .before .before .before .before .before .before .before .visit .ensures) _ _ (c .before .next .given .1)
 
--- src/lib.rt:88:1
 same-length-4 : tie.Need-same-length-4
 same-length-4 c = c .before .before .before .before .before .before .before .before .before .before .before .before .before .before .visit .kept .1 .1 .0
 
--- src/lib.rt:88:1
 same-length-5 : tie.Need-same-length-5
 same-length-5 c = c .before .before .take-up .kept .0 ∙ c .before .before .before .before .before .before .before .before .before .before .before .before .before .before .visit .kept .1 .1 .1 .0
 
--- src/lib.rt:88:1
 same-length-6 : tie.Need-same-length-6
 same-length-6 c = c .before .before .before .before .before .before .before .before .before .before .before .before .before .before .visit .kept .1 .1 .1 .1 .0
 
--- src/lib.rt:88:1
 returns-2 : tie.Need-returns-2
 returns-2 c = let s = c .before .before .before .before .before .before .before .before .before .before .before .before .before .before .before .before .before .before .before .before .before .before .before in let v = c .before .before .before .before .before .before .before .before .before .before .before .before .before .before .visit in turn-done _ _ _ _ _ _ _ _ (s .pre) _ _ _ _ (v .ensures) _ (c .before .before .before .before .before .before .on .given .1) (v .kept .1 .1 .1 .0) _ _ (c .before .before .take-up .ensures)
 
--- src/lib.rt:88:1
 same-length-7 : tie.Need-same-length-7
 same-length-7 c = c .before .before .before .before .before .before .before .before .before .visit .kept .1 .1 .0
 
--- src/lib.rt:88:1
 same-length-8 : tie.Need-same-length-8
 same-length-8 c = c .before .before .before .before .before .before .before .before .before .visit .kept .1 .1 .1 .0
 
--- src/lib.rt:88:1
 same-length-9 : tie.Need-same-length-9
 same-length-9 c = c .before .before .before .before .before .before .before .before .before .visit .kept .1 .1 .1 .1 .0
 
--- src/lib.rt:88:1
 returns-3 : tie.Need-returns-3
 returns-3 c = let s = c .before .before .before .before .before .before .before .before .before .before .before .before .before .before .before .before .before .before in turn-stop _ _ _ _ _ _ _ _ (s .pre) _ _ _ _ (c .before .before .before .before .before .before .before .before .before .visit .ensures) _ _ _ (c .before .answer .given .1)
 

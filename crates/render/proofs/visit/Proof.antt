@@ -1,203 +1,145 @@
-use Rattle.fitting.proofs.Nodes.{node-fail}
+-- `render::visit` meets its contract: an arm for each kind, by the law that Visits.antt has for it.
+-- Assumes nothing.
+use Rattle.table.proofs.Nodes.{node-fail}
 use Rattle.render.proofs.Visits.{depth-small, group-fits, nest-fits, text-fits, visit-nil, visit-kept, visit-broken, visit-flat, visit-nest, visit-align, visit-wrote, visit-annotated, visit-fail}
 use borrow.Author.Needs.{needs}
 use native.Mathlib.Omega.{arith}
-use mathlib.Core.Path.{_≡_, refl, sym, ap, _∙_, subst}
-use mathlib.Core.List.{List, [], _∷_, _++_, map}
-use Prim.Native.Nat.{ℕ, zero, suc, _+_, _-_, _*_, _≤_, _<_, _^_}
-use lib.ListN.{length, getD, take, drop, set, replicate, length-set}
+use mathlib.Core.Path.{refl}
 use Rattle.render.proofs.visit.Statement.{statement}
 use Rattle.render.proofs.visit.Tie as tie
-use Rattle.render.proofs.visit.Reads as reads
-use Rattle.render.proofs.visit.Lts as lts
-use Rattle.lay.proofs.child_of.Reads as child-of-reads
-use Rattle.lay.proofs.lay_annotated.Reads as lay-annotated-reads
-use Rattle.lay.proofs.lay_append.Reads as lay-append-reads
-use Rattle.lay.proofs.lay_fail.Reads as lay-fail-reads
-use Rattle.lay.proofs.lay_group.Reads as lay-group-reads
-use Rattle.lay.proofs.lay_hardline.Reads as lay-hardline-reads
-use Rattle.lay.proofs.lay_text.Reads as lay-text-reads
-use Rattle.lay.proofs.lay_union.Reads as lay-union-reads
-use Rattle.lay.proofs.nest_by.Reads as nest-by-reads
-use Rattle.table.proofs.Column.to_indent.Reads as to-indent-reads
 
--- src/lib.rt:28:15
 cast-at : tie.Need-cast-at
 cast-at c = search needs
 
--- src/lib.rt:28:14
 mul-at : tie.Need-mul-at
 mul-at c = search needs
 
--- src/lib.rt:29:16
 mul-kind : tie.Need-mul-kind
 mul-kind c = search needs
 
--- src/lib.rt:29:16
 shared-slice-read-kind : tie.Need-shared-slice-read-kind
 shared-slice-read-kind c = search needs
 
--- src/lib.rt:30:19
 add-a : tie.Need-add-a
 add-a c = search needs
 
--- src/lib.rt:30:13
 mul-a : tie.Need-mul-a
 mul-a c = search needs
 
--- src/lib.rt:30:13
 shared-slice-read-a : tie.Need-shared-slice-read-a
 shared-slice-read-a c = search needs
 
--- src/lib.rt:31:19
 add-b : tie.Need-add-b
 add-b c = search needs
 
--- src/lib.rt:31:13
 mul-b : tie.Need-mul-b
 mul-b c = search needs
 
--- src/lib.rt:31:13
 shared-slice-read-b : tie.Need-shared-slice-read-b
 shared-slice-read-b c = search needs
 
--- src/lib.rt:32:19
 add-c : tie.Need-add-c
 add-c c = search needs
 
--- src/lib.rt:32:13
 mul-c : tie.Need-mul-c
 mul-c c = search needs
 
--- src/lib.rt:32:13
 shared-slice-read-c : tie.Need-shared-slice-read-c
 shared-slice-read-c c = search needs
 
--- src/lib.rt:37:14
 lay-append-requires : tie.Need-lay-append-requires
-lay-append-requires c κs = let s = c .before .before .before .before .before .before .before .before .before .before .before .before .before .before in (depth-small _ _ _ _ _ _ _ (s .args .hand) (s .pre), omega (arith, s .pre .area))
+lay-append-requires c κs = let s = c .before .before .before .before .before .before .before .before .before .before .before .before .before .before in (depth-small _ _ _ _ _ _ _ (s .args .hand) (s .pre), omega (arith, s .pre .start .area))
 
--- src/lib.rt:38:14
 lay-group-requires : tie.Need-lay-group-requires
 lay-group-requires c κs = let s = c .before .before .before .before .before .before .before .before .before .before .before .before .before .before in group-fits _ _ _ _ _ _ _ (s .args .hand) (s .pre) (c .before .match .keys3)
 
--- src/lib.rt:39:40
 child-of-requires : tie.Need-child-of-requires
 child-of-requires c κs = search needs
 
--- src/lib.rt:39:85
 child-of-requires-2 : tie.Need-child-of-requires-2
 child-of-requires-2 c κs = search needs
 
--- src/lib.rt:41:17
 nest-by-requires : tie.Need-nest-by-requires
 nest-by-requires c κs = let s = c .before .before .before .before .before .before .before .before .before .before .before .before .before in nest-fits _ _ _ _ _ _ _ (s .args .hand) (s .pre) (c .match .keys5)
 
--- src/lib.rt:44:14
 lay-hardline-requires : tie.Need-lay-hardline-requires
-lay-hardline-requires c κs = let s = c .before .before .before .before .before .before .before .before .before .before .before .before .before .before .before in (omega (arith, depth-small _ _ _ _ _ _ _ (s .args .hand) (s .pre)), omega (arith, s .pre .area), s .pre .used, s .pre .room)
+lay-hardline-requires c κs = let s = c .before .before .before .before .before .before .before .before .before .before .before .before .before .before .before in (omega (arith, depth-small _ _ _ _ _ _ _ (s .args .hand) (s .pre)), omega (arith, s .pre .start .area), s .pre .used, s .pre .start .room)
 
--- src/lib.rt:45:14
 lay-text-requires : tie.Need-lay-text-requires
 lay-text-requires c κs = let s = c .before .before .before .before .before .before .before .before .before .before .before .before .before .before in text-fits _ _ _ _ _ _ _ (s .args .hand) (s .pre) (c .before .match .keys7)
 
--- src/lib.rt:46:14
 lay-annotated-requires : tie.Need-lay-annotated-requires
-lay-annotated-requires c κs = let s = c .before .before .before .before .before .before .before .before .before .before .before .before .before .before .before in (depth-small _ _ _ _ _ _ _ (s .args .hand) (s .pre), omega (arith, s .pre .area), s .pre .marks, s .pre .slots)
+lay-annotated-requires c κs = let s = c .before .before .before .before .before .before .before .before .before .before .before .before .before .before .before in (depth-small _ _ _ _ _ _ _ (s .args .hand) (s .pre), omega (arith, s .pre .start .area), s .pre .marks, s .pre .start .slots)
 
--- src/lib.rt:47:14
 lay-union-requires : tie.Need-lay-union-requires
-lay-union-requires c κs = let s = c .before .before .before .before .before .before .before .before .before .before .before .before .before .before in (depth-small _ _ _ _ _ _ _ (s .args .hand) (s .pre), omega (arith, s .pre .area))
+lay-union-requires c κs = let s = c .before .before .before .before .before .before .before .before .before .before .before .before .before .before in (depth-small _ _ _ _ _ _ _ (s .args .hand) (s .pre), omega (arith, s .pre .start .area))
 
--- src/lib.rt:50:17
 to-indent-requires : tie.Need-to-indent-requires
 to-indent-requires c κs = search needs
 
--- src/lib.rt:53:14
 lay-fail-requires : tie.Need-lay-fail-requires
-lay-fail-requires c κs = let s = c .before .before .before .before .before .before .before .before .before .before .before .before .before .before in (omega (arith, depth-small _ _ _ _ _ _ _ (s .args .hand) (s .pre)), omega (arith, s .pre .area))
+lay-fail-requires c κs = let s = c .before .before .before .before .before .before .before .before .before .before .before .before .before .before in (omega (arith, depth-small _ _ _ _ _ _ _ (s .args .hand) (s .pre)), omega (arith, s .pre .start .area))
 
--- src/lib.rt:24:1
 returns : tie.Need-returns
 returns c = let s = c .before .before .before .before .before .before .before .before .before .before .before .before .before in visit-nil _ _ _ _ _ _ _ _ (s .pre) (c .match .keys1)
 
--- src/lib.rt:24:1
 same-length : tie.Need-same-length
 same-length c = search needs
 
--- src/lib.rt:24:1
 returns-2 : tie.Need-returns-2
 returns-2 c = let s = c .before .before .before .before .before .before .before .before .before .before .before .before .before .before .before .before .before in visit-kept _ _ _ _ _ _ _ _ (s .pre) 1 _ _ _ (c .before .before .before .before .match .keys2) (c .before .before .lay-append .ensures) (λ limit. refl)
 
--- src/lib.rt:24:1
 same-length-2 : tie.Need-same-length-2
 same-length-2 c = search needs
 
--- src/lib.rt:24:1
 returns-3 : tie.Need-returns-3
 returns-3 c = let s = c .before .before .before .before .before .before .before .before .before .before .before .before .before .before .before .before .before in visit-kept _ _ _ _ _ _ _ _ (s .pre) 2 _ _ _ (c .before .before .before .before .match .keys3) (c .before .before .lay-group .ensures) (λ limit. refl)
 
--- src/lib.rt:24:1
 returns-4 : tie.Need-returns-4
 returns-4 c = let s = c .before .before .before .before .before .before .before .before .before .before .before .before .before .before .before .before in visit-broken _ _ _ _ _ _ _ _ (s .pre) _ (c .before .before .before .match .keys4) (c .before .if1 .taken) (c .child-of .ensures)
 
--- src/lib.rt:24:1
 returns-5 : tie.Need-returns-5
 returns-5 c = let s = c .before .before .before .before .before .before .before .before .before .before .before .before .before .before .before .before in visit-flat _ _ _ _ _ _ _ _ (s .pre) _ (c .before .before .before .match .keys4) (c .before .if1 .left) (c .child-of2 .ensures)
 
--- src/lib.rt:24:1
 returns-6 : tie.Need-returns-6
 returns-6 c = let s = c .before .before .before .before .before .before .before .before .before .before .before .before .before .before in visit-nest _ _ _ _ _ _ _ _ (s .pre) _ (c .before .match .keys5) (c .nest-by .ensures)
 
--- src/lib.rt:24:1
 same-length-3 : tie.Need-same-length-3
 same-length-3 c = search needs
 
--- src/lib.rt:24:1
 same-length-4 : tie.Need-same-length-4
 same-length-4 c = search needs
 
--- src/lib.rt:24:1
 returns-7 : tie.Need-returns-7
 returns-7 c = let s = c .before .before .before .before .before .before .before .before .before .before .before .before .before .before .before .before .before .before in visit-wrote _ _ _ _ _ _ _ _ (s .pre) 5 _ _ _ (c .before .before .before .before .before .match .keys6) (c .before .before .lay-hardline .ensures) (λ limit. refl)
 
--- src/lib.rt:24:1
 same-length-5 : tie.Need-same-length-5
 same-length-5 c = search needs
 
--- src/lib.rt:24:1
 returns-8 : tie.Need-returns-8
 returns-8 c = let s = c .before .before .before .before .before .before .before .before .before .before .before .before .before .before .before .before .before in visit-wrote _ _ _ _ _ _ _ _ (s .pre) 6 _ _ _ (c .before .before .before .before .match .keys7) (c .before .before .lay-text .ensures) (λ limit. refl)
 
--- src/lib.rt:24:1
 same-length-6 : tie.Need-same-length-6
 same-length-6 c = search needs
 
--- src/lib.rt:24:1
 same-length-7 : tie.Need-same-length-7
 same-length-7 c = search needs
 
--- src/lib.rt:24:1
 returns-9 : tie.Need-returns-9
 returns-9 c = let s = c .before .before .before .before .before .before .before .before .before .before .before .before .before .before .before .before .before .before .before .before in visit-annotated _ _ _ _ _ _ _ _ (s .pre) _ _ _ _ (c .before .before .before .before .before .before .before .match .keys8) (c .before .before .before .before .lay-annotated .ensures) (λ limit. refl)
 
--- src/lib.rt:24:1
 same-length-8 : tie.Need-same-length-8
 same-length-8 c = search needs
 
--- src/lib.rt:24:1
 returns-10 : tie.Need-returns-10
 returns-10 c = let s = c .before .before .before .before .before .before .before .before .before .before .before .before .before .before .before .before .before in visit-kept _ _ _ _ _ _ _ _ (s .pre) 8 _ _ _ (c .before .before .before .before .match .keys9) (c .before .before .lay-union .ensures) (λ limit. refl)
 
--- src/lib.rt:24:1
 returns-11 : tie.Need-returns-11
 returns-11 c = let s = c .before .before .before .before .before .before .before .before .before .before .before .before .before .before .before in visit-align _ _ _ _ _ _ _ _ (s .pre) _ (c .before .before .match .keys10) (c .to-indent .ensures)
 
--- src/lib.rt:24:1
 same-length-9 : tie.Need-same-length-9
 same-length-9 c = search needs
 
--- src/lib.rt:24:1
 returns-12 : tie.Need-returns-12
 returns-12 c = let s = c .before .before .before .before .before .before .before .before .before .before .before .before .before .before .before in
     let h = c .before .before .match .rest in

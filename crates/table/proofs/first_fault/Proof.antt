@@ -1,11 +1,13 @@
 -- `table::first_fault` meets its contract: the nodes before n have no fault. Assumes nothing.
 use borrow.Author.Needs.{needs}
 use native.Mathlib.Omega.{arith}
-use mathlib.Core.Path.{_≡_, refl, _∙_}
-use Prim.Native.Nat.{_+_, _*_, _-_, _/_, _≤_, _<_}
+use mathlib.Core.Path.{_≡_, ap, _∙_}
+use Prim.Native.Nat.{_*_, _-_, _/_, _≤_}
 use lib.ListN.{length, getD}
-use Rattle.table.specs.Kinds.{kinds, kindAt}
-use Rattle.table.specs.Fault.{none, faultAt, firstFault}
+use mathlib.Core.List.{List}
+use Rattle.table.specs.declared.KindInfo.{KindInfo}
+use Rattle.table.specs.Kinds.{kind, kindAt}
+use Rattle.table.specs.Fault.{none, firstFault}
 use native.Mathlib.Numerals.{add-one}
 use Rattle.table.proofs.Accept.{first-zero, first-next, first-here}
 use Rattle.table.proofs.Answers.{fault-unknown, fault-read, reported}
@@ -18,14 +20,17 @@ Inv-loop table text plain kinds nodes n₀ n = (n ≤ nodes) × (firstFault tabl
 abbrev μ-loop : tie.MeasureT-loop
 μ-loop table text plain kinds nodes n₀ n = nodes - n
 
+all-kinds-requires : tie.Need-all-kinds-requires Inv-loop μ-loop
+all-kinds-requires c κs = search needs
+
 loop-holds : tie.Need-loop-holds Inv-loop μ-loop
-loop-holds c = (omega arith, first-zero (c .before .before .args .table .now) (c .before .before .args .text .now))
+loop-holds c = (omega arith, first-zero (c .before .before .before .args .table .now) (c .before .before .before .args .text .now))
 
 mul-at : tie.Need-mul-at Inv-loop μ-loop
 mul-at c = search needs
 
-cast-place : tie.Need-cast-place Inv-loop μ-loop
-cast-place c = search needs
+cast-k : tie.Need-cast-k Inv-loop μ-loop
+cast-k c = search needs
 
 mul-k : tie.Need-mul-k Inv-loop μ-loop
 mul-k c = search needs
@@ -35,7 +40,7 @@ shared-slice-read-k c = search needs
 
 returns : tie.Need-returns Inv-loop μ-loop
 returns c =
-    let a = c .before .before .before .before .before .before .args in
+    let a = c .before .before .before .before .before .before .before .args in
     let table = a .table .now in
     let text = a .text .now in
     let L = c .before .before .before .loop in
@@ -79,12 +84,15 @@ shared-slice-read-node-fault-3 : tie.Need-shared-slice-read-node-fault-3 Inv-loo
 shared-slice-read-node-fault-3 c = search needs
 
 node-fault-requires : tie.Need-node-fault-requires Inv-loop μ-loop
-unfolding kinds kindAt
-node-fault-requires c κs = (c .before .before .before .before .before .before .before .before .before .before .pre .0, omega arith, refl)
+unfolding kindAt
+node-fault-requires c κs =
+    let s = c .before .before .before .before .before .before .before .before .before .before .before in
+    let k = getD (s .args .table .now) (c .before .before .before .before .before .before .before .loop .n * 4) 0 in
+    (s .pre .0, omega arith, ap (λ (t : List KindInfo). getD t k (kind 0 0)) (c .before .before .before .before .before .before .before .before .all-kinds .ensures))
 
 returns-2 : tie.Need-returns-2 Inv-loop μ-loop
 returns-2 c =
-    let a = c .before .before .before .before .before .before .before .before .before .before .before .before .args in
+    let a = c .before .before .before .before .before .before .before .before .before .before .before .before .before .args in
     let table = a .table .now in
     let text = a .text .now in
     let L = c .before .before .before .before .before .before .before .before .before .loop in
@@ -99,7 +107,7 @@ loop-less c = search needs
 
 loop-again : tie.Need-loop-again Inv-loop μ-loop
 loop-again c =
-    let a = c .before .before .before .before .before .before .before .before .before .before .before .before .args in
+    let a = c .before .before .before .before .before .before .before .before .before .before .before .before .before .args in
     let table = a .table .now in
     let text = a .text .now in
     let L = c .before .before .before .before .before .before .before .before .before .loop in
@@ -108,7 +116,7 @@ loop-again c =
 
 returns-3 : tie.Need-returns-3 Inv-loop μ-loop
 returns-3 c =
-    let a = c .before .before .before .before .args in
+    let a = c .before .before .before .before .before .args in
     let table = a .table .now in
     let text = a .text .now in
     let L = c .before .loop in
@@ -121,9 +129,10 @@ first-fault-spec =
     (tie.spec
     Inv-loop
     μ-loop
+    all-kinds-requires
     loop-holds
     mul-at
-    cast-place
+    cast-k
     mul-k
     shared-slice-read-k
     returns

@@ -13,7 +13,7 @@ returns : tie.Need-returns
 returns c =
     let a = c .before .before .before .args in
     let pre = c .before .before .before .pre in
-    fault-unused (a .text .now) (a .n) (a .k) (a .a) (a .b) (a .c) (a .info) (pre .1) (pre .2)
+    fault-unused (a .text .now) (a .n .0) (a .k) (a .a) (a .b) (a .c) (a .info) (pre .1) (pre .2)
     (sym (c .before .unused-zero .ensures) ∙ not-true _ (c .if1 .taken))
 
 children-below-requires : tie.Need-children-below-requires
@@ -23,7 +23,7 @@ returns-2 : tie.Need-returns-2
 returns-2 c =
     let a = c .before .before .before .before .before .args in
     let pre = c .before .before .before .before .before .pre in
-    fault-child (a .text .now) (a .n) (a .k) (a .a) (a .b) (a .c) (a .info) (pre .1) (pre .2)
+    fault-child (a .text .now) (a .n .0) (a .k) (a .a) (a .b) (a .c) (a .info) (pre .1) (pre .2)
     (sym (c .before .before .before .unused-zero .ensures) ∙ not-false _ (c .before .before .if1 .left))
     (sym (c .before .children-below .ensures) ∙ not-true _ (c .if2 .taken))
 
@@ -34,7 +34,7 @@ returns-3 : tie.Need-returns-3
 returns-3 c =
     let a = c .before .before .before .before .before .before .before .args in
     let pre = c .before .before .before .before .before .before .before .pre in
-    fault-nest (a .text .now) (a .n) (a .k) (a .a) (a .b) (a .c) (a .info) (pre .1) (pre .2)
+    fault-nest (a .text .now) (a .n .0) (a .k) (a .a) (a .b) (a .c) (a .info) (pre .1) (pre .2)
     (sym (c .before .before .before .before .before .unused-zero .ensures) ∙ not-false _ (c .before .before .before .before .if1 .left))
     (sym (c .before .before .before .children-below .ensures) ∙ not-false _ (c .before .before .if2 .left))
     (sym (c .before .nest-in-range .ensures) ∙ not-true _ (c .if3 .taken))
@@ -43,7 +43,7 @@ returns-4 : tie.Need-returns-4
 returns-4 c =
     let a = c .before .before .before .before .before .before .before .before .args in
     let pre = c .before .before .before .before .before .before .before .before .pre in
-    fault-none (a .text .now) (a .n) (a .k) (a .a) (a .b) (a .c) (a .info) (pre .1) (pre .2)
+    fault-none (a .text .now) (a .n .0) (a .k) (a .a) (a .b) (a .c) (a .info) (pre .1) (pre .2)
     (sym (c .before .before .before .before .before .before .unused-zero .ensures) ∙ not-false _ (c .before .before .before .before .before .if1 .left))
     (sym (c .before .before .before .before .children-below .ensures) ∙ not-false _ (c .before .before .before .if2 .left))
     (sym (c .before .before .nest-in-range .ensures) ∙ not-false _ (c .before .if3 .left))
@@ -56,7 +56,7 @@ returns-5 : tie.Need-returns-5
 returns-5 c =
     let a = c .before .before .before .before .before .before .before .before .before .args in
     let pre = c .before .before .before .before .before .before .before .before .before .pre in
-    fault-text (a .text .now) (a .n) (a .k) (a .a) (a .b) (a .c) (a .info) (pre .1) (pre .2)
+    fault-text (a .text .now) (a .n .0) (a .k) (a .a) (a .b) (a .c) (a .info) (pre .1) (pre .2)
     (sym (c .before .before .before .before .before .before .before .unused-zero .ensures) ∙ not-false _ (c .before .before .before .before .before .before .if1 .left))
     (sym (c .before .before .before .before .before .children-below .ensures) ∙ not-false _ (c .before .before .before .before .if2 .left))
     (c .text-fault .result)

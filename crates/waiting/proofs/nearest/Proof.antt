@@ -1,16 +1,14 @@
-use Rattle.waiting.proofs.Laws.{tag-place, from-none}
-use Rattle.waiting.proofs.Laws.{from-here, from-below}
+-- `waiting::nearest` meets its contract: what waits from the nearest such entry on is the same at each height that the loop passes.
+-- Assumes nothing.
+use Rattle.waiting.proofs.Laws.{tag-place, from-none, from-here, from-below}
 use Rattle.waiting.specs.Stack.{stackOf, from}
 use borrow.Author.Needs.{needs}
 use native.Mathlib.Omega.{arith}
-use mathlib.Core.Path.{_≡_, refl, sym, ap, _∙_, subst}
-use mathlib.Core.List.{List, [], _∷_, _++_, map}
-use Prim.Native.Nat.{ℕ, zero, suc, _+_, _-_, _*_, _≤_, _<_, _^_}
-use lib.ListN.{length, getD, take, drop, set, replicate, length-set}
+use mathlib.Core.Path.{_≡_, refl, _∙_}
+use Prim.Native.Nat.{_+_, _-_, _*_, _≤_, _<_}
+use lib.ListN.{getD}
 use Rattle.waiting.proofs.nearest.Statement.{statement}
 use Rattle.waiting.proofs.nearest.Tie as tie
-use Rattle.waiting.proofs.nearest.Reads as reads
-use Rattle.waiting.proofs.nearest.Lts as lts
 
 abbrev Inv-loop : tie.InvT-loop
 Inv-loop work depth tag d₀ d = (d ≤ depth) × (from tag (stackOf depth work) ≡ from tag (stackOf d work))
@@ -18,48 +16,38 @@ Inv-loop work depth tag d₀ d = (d ≤ depth) × (from tag (stackOf depth work)
 abbrev μ-loop : tie.MeasureT-loop
 μ-loop work depth tag d₀ d = d
 
--- src/lib.rt:94:5
 loop-holds : tie.Need-loop-holds Inv-loop μ-loop
 loop-holds c = (omega arith, refl)
 
--- src/lib.rt:95:17
 mul-if1 : tie.Need-mul-if1 Inv-loop μ-loop
 mul-if1 c = search needs
 
--- src/lib.rt:95:17
 sub-if1 : tie.Need-sub-if1 Inv-loop μ-loop
 sub-if1 c = search needs
 
--- src/lib.rt:95:12
 mul-if1-2 : tie.Need-mul-if1-2 Inv-loop μ-loop
 mul-if1-2 c = search needs
 
--- src/lib.rt:95:12
 shared-slice-read-if1 : tie.Need-shared-slice-read-if1 Inv-loop μ-loop
 shared-slice-read-if1 c = search needs
 
--- src/lib.rt:96:13
 returns : tie.Need-returns Inv-loop μ-loop
 returns c = let L = c .before .before .before in
     let some : 0 < L .loop .d = c .before .before .loop-test .taken in
     let e : getD (c .before .before .before .before .args .work .now) ((L .loop .d - 1) * 4 + 3) 0 ≡ c .before .before .before .before .args .tag = rw (← tag-place (L .loop .d) some) (c .if1 .taken) in
     record { within = L .loop .inv .0; found = L .loop .inv .1 ∙ from-here _ _ _ (omega (arith, c .before .before .before .before .pre)) some e; tagged = λ lt. e }
 
--- src/lib.rt:98:9
 sub-d : tie.Need-sub-d Inv-loop μ-loop
 sub-d c = search needs
 
--- src/lib.rt:94:5
 loop-less : tie.Need-loop-less Inv-loop μ-loop
 loop-less c = search needs
 
--- src/lib.rt:94:5
 loop-again : tie.Need-loop-again Inv-loop μ-loop
 loop-again c = let L = c .before .before .before in
     let some : 0 < L .loop .d = c .before .before .loop-test .taken in
     (omega arith, L .loop .inv .1 ∙ from-below _ _ _ (omega (arith, c .before .before .before .before .pre)) some (λ e. c .if1 .left (rw (tag-place (L .loop .d) some) e)))
 
--- src/lib.rt:89:1
 returns-2 : tie.Need-returns-2 Inv-loop μ-loop
 returns-2 c = let e : c .before .loop .d ≡ 0 = omega arith in
     record { within = omega arith; found = c .before .loop .inv .1 ∙ rw e (from-none _); tagged = λ lt. absurd (omega arith) }

@@ -1,29 +1,19 @@
+-- `waiting::push_mark` meets its contract: the four words at the next place are the entry, by `pushed`.
+-- Assumes nothing.
 use Rattle.waiting.proofs.Laws.{pushed}
 use borrow.Author.Needs.{needs}
-use native.Mathlib.Omega.{arith}
-use mathlib.Core.Path.{_≡_, refl, sym, ap, _∙_, subst}
-use mathlib.Core.List.{List, [], _∷_, _++_, map}
-use Prim.Native.Nat.{ℕ, zero, suc, _+_, _-_, _*_, _≤_, _<_, _^_}
-use lib.ListN.{length, getD, take, drop, set, replicate, length-set}
 use Rattle.waiting.proofs.push_mark.Statement.{statement}
 use Rattle.waiting.proofs.push_mark.Tie as tie
-use Rattle.waiting.proofs.push_mark.Reads as reads
-use Rattle.waiting.proofs.push_mark.Lts as lts
-use Rattle.waiting.proofs.put_entry.Reads as put-entry-reads
 
--- src/lib.rt:68:21
 mul-put-entry : tie.Need-mul-put-entry
 mul-put-entry c = search needs
 
--- src/lib.rt:68:5
 put-entry-requires : tie.Need-put-entry-requires
 put-entry-requires c κs = search needs
 
--- src/lib.rt:64:1
 same-length : tie.Need-same-length
 same-length c = search needs
 
--- src/lib.rt:64:1
 returns : tie.Need-returns
 returns c = let s = c .before .before .before .before .before in pushed (s .args .work .now) (s .args .depth) (s .pre .0) (s .pre .1) _ _ 0 2 _ (c .before .before .put-entry .ensures)
 

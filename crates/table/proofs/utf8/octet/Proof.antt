@@ -1,6 +1,5 @@
 -- `table::utf8::octet` meets its contract: a first octet, one outside what is owed, or one in it. Assumes nothing.
 use borrow.Author.Needs.{needs}
-use native.Mathlib.Omega.{arith}
 use mathlib.Core.Path.{_≡_}
 use mathlib.Core.Bool.{true, false}
 use borrow.Author.Tests.{le-leb, lt-leb}

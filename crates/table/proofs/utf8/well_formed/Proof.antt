@@ -3,11 +3,11 @@ use borrow.Author.Needs.{needs}
 use native.Mathlib.Omega.{arith}
 use mathlib.Core.Path.{_≡_, refl, sym, ap, _∙_}
 use mathlib.Core.List.{[]}
-use Prim.Native.Nat.{_+_, _-_, _≤_, _<_}
+use Prim.Native.Nat.{_+_, _-_, _≤_}
 use lib.ListN.{length, drop}
 use lib.Seq.{drop-length}
 use Rattle.table.specs.Utf8.{wellFormed, owed}
-use Rattle.table.specs.Owing.{ranges, goesOn}
+use Rattle.table.specs.Parts.{ranges, goesOn}
 use Rattle.table.specs.declared.utf8.Next.{Next}
 use Rattle.table.proofs.Octets.{owed-read, owed-end}
 use Rattle.table.proofs.utf8.well_formed.Statement.{statement}

@@ -1,0 +1,94 @@
+//! chest: the sheet of a chest's test results (standard input, as crates/chest/stdin) as crate pretty lays it out. The document is the one
+//! that crates/rows builds, made by the crate's own constructors; the margin is the one that crates/strip prints.
+
+#[cfg(not(pretty))]
+fn main() {
+    println!("crate pretty is not at hand (its source's folder: PRETTY_SOURCE), so there is no sheet of its");
+    std::process::exit(3);
+}
+
+#[cfg(pretty)]
+fn main() {
+    let input = std::io::read_to_string(std::io::stdin()).expect("UTF-8");
+    let arena = pretty::Arena::new();
+    let parts: Vec<_> = input.lines().map(|line| sheet::part(&arena, line)).collect();
+    let wrote = compare::beside::write(&pretty::DocAllocator::concat(&arena, parts), 42);
+    print!("{}", sheet::with_margins(&wrote));
+}
+
+#[cfg(pretty)]
+mod sheet {
+    use compare::beside::{Built, Wrote};
+    use pretty::{Arena, DocAllocator};
+
+    /// What a line adds: a row, a heading or an empty line.
+    pub fn part<'a>(arena: &'a Arena<'a, u32>, line: &str) -> Built<'a> {
+        if line.is_empty() {
+            return arena.hardline();
+        }
+        if let Some(heading) = line.strip_prefix('#') {
+            return words(arena, heading).append(arena.hardline());
+        }
+        let fields: Vec<&str> = line.splitn(4, ';').collect();
+        let fixed = arena.text(format!("{:6}{:>4} g{:>6} mm", fields[0], fields[1], fields[2]));
+        let remark = fields[3].trim_matches(' ');
+        let row = if remark.is_empty() { fixed.append(arena.hardline()) } else { remarked(arena, fixed, remark) };
+        match label(fields[1], fields[2]) {
+            0 => row,
+            label => row.annotate(label),
+        }
+    }
+
+    /// The remark beside the row and a Hardline, or filled below it and a Hardline.
+    fn remarked<'a>(arena: &'a Arena<'a, u32>, fixed: Built<'a>, remark: &str) -> Built<'a> {
+        let beside = fixed.clone().append(arena.text(format!("  {remark}"))).append(arena.hardline());
+        let below = arena.hardline().append(words(arena, remark)).nest(4);
+        beside.union(fixed.append(below).append(arena.hardline()))
+    }
+
+    /// The words filled by softlines; they stay together up to 12 columns, and no piece has more than 38.
+    fn words<'a>(arena: &'a Arena<'a, u32>, text: &str) -> Built<'a> {
+        let mut pieces: Vec<String> = Vec::new();
+        let mut piece = String::new();
+        for character in text.trim_matches(' ').chars() {
+            let wide = piece.chars().count();
+            if wide == 0 && character == ' ' {
+                continue;
+            }
+            if wide == 38 || (wide >= 12 && character == ' ') {
+                pieces.push(std::mem::take(&mut piece));
+                if character == ' ' {
+                    continue;
+                }
+            }
+            piece.push(character);
+        }
+        pieces.push(piece);
+        arena.intersperse(pieces.into_iter().map(|piece| arena.text(piece)), arena.softline())
+    }
+
+    /// 0 within tolerance; else 1 for the force, 2 for the pluck point, 3 for both.
+    fn label(force: &str, pluck: &str) -> u32 {
+        let force: u32 = force.parse().expect("grams");
+        let tenths: u32 = pluck.replace(['.', ','], "").parse().expect("tenths");
+        u32::from(!(90..=130).contains(&force)) + 2 * u32::from(!(8..=16).contains(&tenths))
+    }
+
+    /// Each line with its margin: `! ` where a mark is open.
+    pub fn with_margins(wrote: &Wrote) -> String {
+        let mut shown = String::new();
+        let mut at = 0;
+        for line in String::from_utf8_lossy(&wrote.bytes).lines() {
+            let before = wrote.events.iter().take_while(|event| event.offset as usize <= at);
+            let open = before.fold(0i32, |open, event| if event.mark == 1 { open + 1 } else { (open - 1).max(0) });
+            shown += if open > 0 { "! " } else { "  " };
+            shown += line;
+            shown += "\n";
+            at += line.len() + 1;
+        }
+        shown
+    }
+}
+
+#[cfg(pretty)]
+extern crate pretty;

@@ -1,0 +1,19 @@
+// The main job: reads a chest's test results from standard input and prints its sheet for the 42-column strip, with `! ` in the margin beside
+// each row out of tolerance. A fault is told on standard error, and then nothing is printed.
+use libc::STDERR_FILENO;
+use libc::STDIN_FILENO;
+use libc::STDOUT_FILENO;
+
+fn main() {
+    let mut space = io::large_buffer();
+    let n = io::read_full(STDIN_FILENO, &mut space);
+    if n == 0 {
+        io::write_all(STDERR_FILENO, b"there is no input\n");
+        return;
+    }
+    if n == 65536 {
+        io::write_all(STDERR_FILENO, b"the input is longer than 65,535 bytes\n");
+        return;
+    }
+    strip::run(&space[..n], STDOUT_FILENO, STDERR_FILENO);
+}

@@ -1,0 +1,5 @@
+-- Laws that the walks cite.
+pub mod Filled
+pub mod Local
+pub mod Published
+pub mod Staging

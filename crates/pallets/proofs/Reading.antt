@@ -1,0 +1,213 @@
+-- The laws of reading, over plain lists.
+--     more, done                    what is left of a list: one more, or nothing
+--     digit-.., digits-end, number-..   a number's bytes, and how large it gets
+--     ..-counts, no-characters      the bytes of characters
+--     control-.., no-controls       control characters
+--     part-.., no-part              the first of a byte
+--     past, opens, closes, no-mark  marks
+--     line-first                    the first line, and those after it
+-- Assumes nothing.
+use Prim.Native.Nat.{ℕ, zero, suc, _+_, _-_, _*_, _^_, _≤_, _<_}
+use native.Mathlib.Omega.{arith}
+use native.Mathlib.Numerals.{add-one}
+use native.Mathlib.Nat.{add-zero, add-suc, suc-add, pow-suc, pow-le-pow-right, not-suc-le-zero, le-of-suc-le-suc}
+use mathlib.Core.Path.{_≡_, refl, sym, ap, _∙_}
+use mathlib.Core.Bool.{Bool, true, false, _&&_}
+use mathlib.Core.List.{List, [], _∷_}
+use lib.ListN.{length, getD, take, drop, length-drop}
+use lib.Seq.{drop-cons, drop-drop}
+use lib.Dec.{eqb, leb}
+use borrow.Author.Tests.{leb-true, le-leb, lt-leb, lt-ltb, le-ltb, eq-eqb, ne-eqb}
+use Rattle.table.specs.Pick.{pick}
+use Rattle.table.proofs.Tests.{and-true}
+use Rattle.pallets.specs.Numbers.{digit, digits, numberOf, Small}
+use Rattle.pallets.specs.Lines.{indexOf, before, lines, characters, controls}
+use Rattle.pallets.specs.Marks.{openAt}
+use Rattle.pallets.specs.declared.Amount.{Amount}
+use Rattle.pallets.specs.declared.Amount.the-variants.{Is, NoNumber}
+
+-- ---- what is left of a list
+
+pub more : (s : List ℕ) (i : ℕ) → i < length s → drop i s ≡ getD s i 0 ∷ drop (i + 1) s
+more s i h = rw (add-one, drop-cons s i 0)
+
+pub done : (s : List ℕ) (i : ℕ) → length s ≤ i → drop i s ≡ []
+done [] zero h = refl
+done [] (suc i) h = refl
+done (x ∷ s) zero h = absurd (not-suc-le-zero h)
+done (x ∷ s) (suc i) h = done s i (le-of-suc-le-suc h)
+
+-- ---- numbers
+
+module _ (n : ℕ) (s : List ℕ) (i : ℕ) (h : i < length s) where
+  pub digit-next : 48 ≤ getD s i 0 → getD s i 0 ≤ 57 → digits n (drop i s) ≡ digits (n * 10 + (getD s i 0 - 48)) (drop (i + 1) s)
+  unfolding digits
+  digit-next l u = rw (more s i h, le-leb 48 (getD s i 0) l, le-leb (getD s i 0) 57 u)
+
+  pub digit-low : getD s i 0 < 48 → digits n (drop i s) ≡ NoNumber
+  unfolding digits
+  digit-low l = rw (more s i h, lt-leb 48 (getD s i 0) l)
+
+  pub digit-high : 57 < getD s i 0 → digits n (drop i s) ≡ NoNumber
+  unfolding digits
+  digit-high u = rw (more s i h, le-leb 48 (getD s i 0) (omega arith), lt-leb (getD s i 0) 57 u)
+
+pub number-is : (s : List ℕ) → 0 < length s → length s ≤ 4 → numberOf s ≡ digits 0 s
+unfolding numberOf
+number-is s l u = rw (le-leb 1 (length s) l, le-leb (length s) 4 u)
+
+pub number-empty : (s : List ℕ) → length s ≡ 0 → NoNumber ≡ numberOf s
+unfolding numberOf
+number-empty s e = rw (lt-leb 1 (length s) (omega arith))
+
+pub number-long : (s : List ℕ) → 4 < length s → NoNumber ≡ numberOf s
+unfolding numberOf
+number-long s u = rw (le-leb 1 (length s) (omega arith), lt-leb (length s) 4 u)
+
+pub digits-end : (n : ℕ) (s : List ℕ) (i : ℕ) → length s ≤ i → digits n (drop i s) ≡ Is n
+unfolding digits
+digits-end n s i h = rw (done s i h)
+
+pub ten-more : (i n d : ℕ) → n < 10 ^ i → d ≤ 9 → n * 10 + d < 10 ^ (i + 1)
+ten-more i n d h l = rw (add-one, pow-suc) (omega arith)
+
+pub ten-small : (i n : ℕ) → n < 10 ^ i → i ≤ 3 → n < 1000
+ten-small i n h l = let p : 10 ^ i ≤ 10 ^ 3 = pow-le-pow-right {n = 10} (omega arith) {i = i} {j = 3} l in omega arith
+
+-- a number is below ten to the power of its digits
+digits-small : (s : List ℕ) (n k v : ℕ) → n < 10 ^ k → digits n s ≡ Is v → v < 10 ^ (k + length s)
+unfolding digits
+digits-small [] n k v h e = let same : n ≡ v = cc in rw (add-zero, ← same) h
+digits-small (b ∷ s) n k v h e = go (digit b) refl (λ m j l e. digits-small s m j v l e) e
+  where
+    go : (t : Bool) → digit b ≡ t → ((m j : ℕ) → m < 10 ^ j → digits m s ≡ Is v → v < 10 ^ (j + length s)) → pick t (digits (n * 10 + (b - 48)) s) NoNumber ≡ Is v → v < 10 ^ (k + suc (length s))
+    go true t rest f =
+        let p = and-true (leb 48 b) (leb b 57) t in
+        let u = leb-true b 57 (p .1) in
+        let same : k + suc (length s) ≡ k + 1 + length s = add-suc k (length s) ∙ sym (suc-add k (length s)) ∙ ap (λ (m : ℕ). m + length s) (sym (add-one k)) in
+        rw same (rest (n * 10 + (b - 48)) (k + 1) (ten-more k n (b - 48) h (omega arith)) f)
+    go false t rest f = let z : _≡_ {A = ℕ} 0 1 = cc in omega arith
+
+pub number-small : (s : List ℕ) → Small (numberOf s)
+unfolding numberOf
+number-small s = go (numberOf s) refl
+  where
+    below : (v : ℕ) (t : Bool) → (leb 1 (length s) && leb (length s) 4) ≡ t → pick t (digits 0 s) NoNumber ≡ Is v → v < 10000
+    below v true t e =
+        let u = leb-true (length s) 4 (and-true (leb 1 (length s)) (leb (length s) 4) t .1) in
+        let p : 10 ^ (0 + length s) ≤ 10 ^ 4 = pow-le-pow-right {n = 10} (omega arith) {i = 0 + length s} {j = 4} (omega arith) in
+        let q = digits-small s 0 0 v (omega arith) e in
+        omega arith
+    below v false t e = let z : _≡_ {A = ℕ} 0 1 = cc in omega arith
+
+    go : (a : Amount) → numberOf s ≡ a → Small a
+    go NoNumber e = tt
+    go (Is v) e = below v (leb 1 (length s) && leb (length s) 4) refl e
+
+-- ---- columns
+
+module _ (s : List ℕ) (i : ℕ) (h : i < length s) where
+  pub low-counts : getD s i 0 < 128 → characters (drop i s) ≡ characters (drop (i + 1) s) + 1
+  unfolding characters
+  low-counts l = rw (more s i h, lt-leb 128 (getD s i 0) l, add-one (characters (drop (i + 1) s)))
+
+  pub high-counts : 191 < getD s i 0 → characters (drop i s) ≡ characters (drop (i + 1) s) + 1
+  unfolding characters
+  high-counts u = rw (more s i h, le-leb 128 (getD s i 0) (omega arith), lt-leb (getD s i 0) 191 u, add-one (characters (drop (i + 1) s)))
+
+  pub rest-counts : 128 ≤ getD s i 0 → getD s i 0 ≤ 191 → characters (drop i s) ≡ characters (drop (i + 1) s)
+  unfolding characters
+  rest-counts l u = rw (more s i h, le-leb 128 (getD s i 0) l, le-leb (getD s i 0) 191 u)
+
+  -- ---- control characters
+
+  pub control-low : getD s i 0 < 32 → controls (drop i s) ≡ true
+  unfolding controls
+  control-low l = rw (more s i h, lt-ltb (getD s i 0) 32 l)
+
+  pub control-last : 32 ≤ getD s i 0 → getD s i 0 ≡ 127 → controls (drop i s) ≡ true
+  unfolding controls
+  control-last l e = rw (more s i h, le-ltb (getD s i 0) 32 l, eq-eqb (getD s i 0) 127 e)
+
+  pub control-none : 32 ≤ getD s i 0 → (getD s i 0 ≡ 127 → ⊥) → controls (drop i s) ≡ controls (drop (i + 1) s)
+  unfolding controls
+  control-none l e = rw (more s i h, le-ltb (getD s i 0) 32 l, ne-eqb (getD s i 0) 127 e)
+
+  -- ---- parts
+
+  pub part-here : (b : ℕ) → getD s i 0 ≡ b → indexOf b (drop i s) ≡ 0
+  unfolding indexOf
+  part-here b e = rw (more s i h, eq-eqb (getD s i 0) b e)
+
+  pub part-next : (b : ℕ) → (getD s i 0 ≡ b → ⊥) → indexOf b (drop i s) ≡ indexOf b (drop (i + 1) s) + 1
+  unfolding indexOf
+  part-next b e = rw (more s i h, ne-eqb (getD s i 0) b e, add-one (indexOf b (drop (i + 1) s)))
+
+pub no-characters : (s : List ℕ) (i : ℕ) → length s ≤ i → characters (drop i s) ≡ 0
+unfolding characters
+no-characters s i h = rw (done s i h)
+
+pub no-controls : (s : List ℕ) (i : ℕ) → length s ≤ i → controls (drop i s) ≡ false
+unfolding controls
+no-controls s i h = rw (done s i h)
+
+pub no-part : (s : List ℕ) (i b : ℕ) → length s ≤ i → indexOf b (drop i s) ≡ 0
+unfolding indexOf
+no-part s i b h = rw (done s i h)
+
+-- ---- marks
+
+module _ (events : List ℕ) (i n at : ℕ) (h : i + 2 < length events) where
+  three : drop i events ≡ getD events i 0 ∷ getD events (i + 1) 0 ∷ getD events (i + 1 + 1) 0 ∷ drop (i + 1 + 1 + 1) events
+  three =
+      more events i (omega arith) ∙ ap (λ (l : List ℕ). getD events i 0 ∷ l)
+      (more events (i + 1) (omega arith) ∙ ap (λ (l : List ℕ). getD events (i + 1) 0 ∷ l) (more events (i + 1 + 1) (omega arith)))
+
+  pub past : at < getD events i 0 → openAt n (drop i events) at ≡ n
+  unfolding openAt
+  past l = rw (three, lt-ltb at (getD events i 0) l)
+
+  next-mark : getD events i 0 ≤ at → openAt n (drop i events) at ≡ openAt (pick (eqb (getD events (i + 1) 0) 1) (n + 1) (n - 1)) (drop (i + 3) events) at
+  unfolding openAt
+  next-mark l =
+      let e : i + 1 + 1 + 1 ≡ i + 3 = omega arith in
+      rw (three, le-ltb at (getD events i 0) l, e)
+
+  pub opens : getD events i 0 ≤ at → getD events (i + 1) 0 ≡ 1 → openAt (n + 1) (drop (i + 3) events) at ≡ openAt n (drop i events) at
+  opens l e = sym (next-mark l ∙ rw (eq-eqb (getD events (i + 1) 0) 1 e))
+
+  pub closes : getD events i 0 ≤ at → (getD events (i + 1) 0 ≡ 1 → ⊥) → openAt (n - 1) (drop (i + 3) events) at ≡ openAt n (drop i events) at
+  closes l e = sym (next-mark l ∙ rw (ne-eqb (getD events (i + 1) 0) 1 e))
+
+no-three : (n at : ℕ) (events : List ℕ) → length events ≤ 2 → openAt n events at ≡ n
+unfolding openAt
+no-three n at [] h = refl
+no-three n at (a ∷ []) h = refl
+no-three n at (a ∷ b ∷ []) h = refl
+no-three n at (a ∷ b ∷ c ∷ events) h = absurd (not-suc-le-zero (le-of-suc-le-suc (le-of-suc-le-suc h)))
+
+pub no-mark : (n at : ℕ) (events : List ℕ) (i : ℕ) → length events ≤ i + 2 → openAt n (drop i events) at ≡ n
+no-mark n at events i h = no-three n at (drop i events) (rw length-drop (omega arith))
+
+-- ---- lines
+
+line-first-cons : (b : ℕ) (s : List ℕ) → lines (b ∷ s) ≡ take (indexOf 10 (b ∷ s)) (b ∷ s) ∷ lines (drop (suc (indexOf 10 (b ∷ s))) (b ∷ s))
+unfolding indexOf lines
+line-first-cons b [] = go (eqb b 10)
+  where
+    go : (t : Bool) → pick t ([] ∷ []) ((b ∷ []) ∷ []) ≡ take (pick t 0 1) (b ∷ []) ∷ lines (drop (suc (pick t 0 1)) (b ∷ []))
+    go true = refl
+    go false = refl
+line-first-cons b (x ∷ s) = go (eqb b 10) (line-first-cons x s)
+  where
+    go : (t : Bool) → lines (x ∷ s) ≡ take (indexOf 10 (x ∷ s)) (x ∷ s) ∷ lines (drop (suc (indexOf 10 (x ∷ s))) (x ∷ s)) → pick t ([] ∷ lines (x ∷ s)) (before b (lines (x ∷ s))) ≡ take (pick t 0 (suc (indexOf 10 (x ∷ s)))) (b ∷ x ∷ s) ∷ lines (drop (suc (pick t 0 (suc (indexOf 10 (x ∷ s))))) (b ∷ x ∷ s))
+    go true e = refl
+    go false e = ap (before b) e
+
+-- what is left at a place has a first line, and the others start behind it
+pub line-first : (s : List ℕ) (at : ℕ) → at < length s → lines (drop at s) ≡ take (indexOf 10 (drop at s)) (drop at s) ∷ lines (drop (at + indexOf 10 (drop at s) + 1) s)
+line-first s at h =
+    let e = more s at h in
+    let f : lines (drop at s) ≡ take (indexOf 10 (drop at s)) (drop at s) ∷ lines (drop (suc (indexOf 10 (drop at s))) (drop at s)) = rw e (line-first-cons (getD s at 0) (drop (at + 1) s)) in
+    let k = indexOf 10 (drop at s) in
+    f ∙ ap (λ (l : List ℕ). take k (drop at s) ∷ lines l) (drop-drop (suc k) at s ∙ ap (λ (n : ℕ). drop n s) (add-suc at k ∙ sym (add-one (at + k))))

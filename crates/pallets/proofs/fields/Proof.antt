@@ -1,0 +1,47 @@
+-- `pallets::fields` meets its contract: each separator is the first behind the one before. Assumes nothing.
+use borrow.Author.Needs.{needs}
+use native.Mathlib.Omega.{arith}
+use Rattle.pallets.proofs.Saying.{no-force, no-pluck, no-remark, fields-are}
+use Rattle.pallets.proofs.fields.Statement.{statement}
+use Rattle.pallets.proofs.fields.Tie as tie
+
+part-end-requires : tie.Need-part-end-requires
+part-end-requires c κs = search needs
+
+returns : tie.Need-returns
+returns c = (no-force (c .before .before .before .args .s .now) (c .before .part-end .result) (c .before .part-end .ensures) (c .if1 .taken), tt)
+
+add-part-end : tie.Need-add-part-end
+add-part-end c = search needs
+
+part-end-requires-2 : tie.Need-part-end-requires-2
+part-end-requires-2 c κs = search needs
+
+returns-2 : tie.Need-returns-2
+returns-2 c = (no-pluck (c .before .before .before .before .before .args .s .now) (c .before .before .before .part-end .result) (c .before .before .before .part-end .ensures) (c .before .part-end2 .result) (c .before .part-end2 .ensures) (omega arith) (c .if2 .taken), tt)
+
+add-part-end-2 : tie.Need-add-part-end-2
+add-part-end-2 c = search needs
+
+part-end-requires-3 : tie.Need-part-end-requires-3
+part-end-requires-3 c κs = search needs
+
+returns-3 : tie.Need-returns-3
+returns-3 c = (no-remark (c .before .before .before .before .before .before .before .args .s .now) (c .before .before .before .before .before .part-end .result) (c .before .before .before .before .before .part-end .ensures) (c .before .before .before .part-end2 .result) (c .before .before .before .part-end2 .ensures) (omega arith) (c .before .part-end3 .result) (c .before .part-end3 .ensures) (omega arith) (c .if3 .taken), tt)
+
+returns-4 : tie.Need-returns-4
+returns-4 c = (fields-are (c .before .before .before .before .before .before .before .args .s .now) (c .before .before .before .before .before .part-end .result) (c .before .before .before .before .before .part-end .ensures) (c .before .before .before .part-end2 .result) (c .before .before .before .part-end2 .ensures) (omega arith) (c .before .part-end3 .result) (c .before .part-end3 .ensures) (omega arith) (omega arith), (omega arith, omega arith, omega arith))
+
+pub fields-spec : {M : Type 1} → statement M
+fields-spec =
+    tie.close
+    (tie.spec
+    part-end-requires
+    returns
+    add-part-end
+    part-end-requires-2
+    returns-2
+    add-part-end-2
+    part-end-requires-3
+    returns-3
+    returns-4)

@@ -1,0 +1,79 @@
+-- `pallets::pallet_at` meets its contract: by the note's columns, then force and pluck point. Assumes nothing.
+use borrow.Author.Needs.{needs}
+use native.Mathlib.Omega.{arith}
+use mathlib.Core.Path.{sym, _∙_}
+use mathlib.Core.Path.{ap₂}
+use lib.Seq.{length-take-le}
+use Rattle.pallets.specs.Pallets.{measured}
+use Rattle.pallets.proofs.Saying.{no-note, long-note, pallet-is}
+use Rattle.pallets.proofs.pallet_at.Statement.{statement}
+use Rattle.pallets.proofs.pallet_at.Tie as tie
+
+slice-aggregate-columns : tie.Need-slice-aggregate-columns
+slice-aggregate-columns c = sym (length-take-le _ _ (omega arith))
+
+columns-requires : tie.Need-columns-requires
+columns-requires c κs = search needs
+
+returns : tie.Need-returns
+returns c = no-note (c .before .before .before .before .args .s .now) (c .before .before .before .before .args .first) (c .before .before .before .before .args .second) (c .before .before .before .before .args .third) (c .before .columns .result) (c .before .columns .ensures) (c .if1 .taken)
+
+returns-2 : tie.Need-returns-2
+returns-2 c = long-note (c .before .before .before .before .before .args .s .now) (c .before .before .before .before .before .args .first) (c .before .before .before .before .before .args .second) (c .before .before .before .before .before .args .third) (c .before .before .columns .result) (c .before .before .columns .ensures) (c .if2 .taken)
+
+add-force : tie.Need-add-force
+add-force c = search needs
+
+add-pluck : tie.Need-add-pluck
+add-pluck c = search needs
+
+sub-number : tie.Need-sub-number
+sub-number c = search needs
+
+part-number-start : tie.Need-part-number-start
+part-number-start c = search needs
+
+part-number-end : tie.Need-part-number-end
+part-number-end c = search needs
+
+number-requires : tie.Need-number-requires
+number-requires c κs = search needs
+
+sub-tenths : tie.Need-sub-tenths
+sub-tenths c = search needs
+
+part-tenths-start : tie.Need-part-tenths-start
+part-tenths-start c = search needs
+
+part-tenths-end : tie.Need-part-tenths-end
+part-tenths-end c = search needs
+
+tenths-requires : tie.Need-tenths-requires
+tenths-requires c κs = search needs
+
+measured-requires : tie.Need-measured-requires
+measured-requires c κs = search needs
+
+returns-3 : tie.Need-returns-3
+returns-3 c = c .measured .ensures ∙ ap₂ (measured (c .before .before .before .before .before .before .before .before .before .before .args .first) (c .before .before .before .before .before .before .before .before .before .before .args .second) (c .before .before .before .before .before .before .before .before .before .before .args .third)) (c .before .before .before .number .ensures) (c .before .tenths .ensures) ∙ pallet-is (c .before .before .before .before .before .before .before .before .before .before .args .s .now) (c .before .before .before .before .before .before .before .before .before .before .args .first) (c .before .before .before .before .before .before .before .before .before .before .args .second) (c .before .before .before .before .before .before .before .before .before .before .args .third) (c .before .before .before .before .before .before .before .columns .result) (c .before .before .before .before .before .before .before .columns .ensures) (omega arith) (omega arith)
+
+pub pallet-at-spec : {M : Type 1} → statement M
+pallet-at-spec =
+    tie.close
+    (tie.spec
+    slice-aggregate-columns
+    columns-requires
+    returns
+    returns-2
+    add-force
+    add-pluck
+    sub-number
+    part-number-start
+    part-number-end
+    number-requires
+    sub-tenths
+    part-tenths-start
+    part-tenths-end
+    tenths-requires
+    measured-requires
+    returns-3)

@@ -1,0 +1,6 @@
+-- What a chest's test results say.
+pub mod Numbers
+pub mod Tolerance
+pub mod Lines
+pub mod Pallets
+pub mod Marks

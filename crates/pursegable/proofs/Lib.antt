@@ -1,0 +1,3 @@
+-- Laws that the exports' proofs cite.
+pub mod Answering
+pub mod Making

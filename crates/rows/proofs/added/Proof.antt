@@ -1,0 +1,61 @@
+-- `rows::added` is safe and ends. Assumes nothing.
+use lib.Seq.{length-take-le}
+use Rattle.pallets.proofs.Saying.{body-within}
+use borrow.Author.Needs.{needs}
+use native.Mathlib.Omega.{arith}
+use mathlib.Core.Path.{sym}
+use Rattle.rows.proofs.added.Statement.{statement}
+use Rattle.rows.proofs.added.Tie as tie
+
+body-end-requires : tie.Need-body-end-requires
+body-end-requires c κs = search needs
+
+slice-aggregate-part : tie.Need-slice-aggregate-part
+slice-aggregate-part c = sym (length-take-le _ _ (omega (arith, body-within (c .before .before .before .before .before .before .before .args .line .now), c .before .before .before .body-end .ensures)))
+
+part-requires : tie.Need-part-requires
+part-requires c κs = search needs
+
+enum-known-made : tie.Need-enum-known-made
+enum-known-made c = search needs
+
+enum-told : tie.Need-enum-told
+enum-told c = search needs
+
+same-length : tie.Need-same-length
+same-length c = search needs
+
+same-length-2 : tie.Need-same-length-2
+same-length-2 c = search needs
+
+returns : tie.Need-returns
+returns c = search needs
+
+append-requires : tie.Need-append-requires
+append-requires c κs = search needs
+
+same-length-3 : tie.Need-same-length-3
+same-length-3 c = search needs
+
+same-length-4 : tie.Need-same-length-4
+same-length-4 c = search needs
+
+returns-2 : tie.Need-returns-2
+returns-2 c = search needs
+
+pub added-spec : {M : Type 1} → statement M
+added-spec =
+    tie.close
+    (tie.spec
+    body-end-requires
+    slice-aggregate-part
+    part-requires
+    enum-known-made
+    enum-told
+    same-length
+    same-length-2
+    returns
+    append-requires
+    same-length-3
+    same-length-4
+    returns-2)

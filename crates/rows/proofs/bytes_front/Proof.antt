@@ -1,0 +1,19 @@
+-- `rows::bytes_front` is safe and ends. Assumes nothing.
+use lib.Seq.{length-take-le}
+use borrow.Author.Needs.{needs}
+use native.Mathlib.Omega.{arith}
+use mathlib.Core.Path.{sym}
+use Rattle.rows.proofs.bytes_front.Statement.{statement}
+use Rattle.rows.proofs.bytes_front.Tie as tie
+
+returns : tie.Need-returns
+returns c = search needs
+
+slice-aggregate-result : tie.Need-slice-aggregate-result
+slice-aggregate-result c = sym (length-take-le _ _ (omega arith))
+
+returns-2 : tie.Need-returns-2
+returns-2 c = search needs
+
+pub bytes-front-spec : {M : Type 1} → statement M
+bytes-front-spec = tie.close (tie.spec returns slice-aggregate-result returns-2)

@@ -1,0 +1,46 @@
+-- The first n event records, as words, are the front of the slice; and records are known by their words.
+-- Assumes nothing.
+use mathlib.Core.Path.{_≡_, refl, sym, ap, _∙_}
+use Prim.Native.Nat.{ℕ, zero, suc, _+_, _*_, _≤_}
+use native.Mathlib.Omega.{arith}
+use native.Mathlib.Numerals.{add-one, add-two}
+use mathlib.Core.List.{List, [], _∷_, _++_, append-assoc}
+use lib.ListN.{getD, length, take, drop}
+use lib.Seq.{take-suc}
+use Rattle.rules.specs.Layout.{Event}
+use Rattle.rules.specs.Call.{wordsOf}
+use Rattle.lay.specs.State.{eventAt, eventsOf}
+
+words-append : (es fs : List Event) → wordsOf (es ++ fs) ≡ wordsOf es ++ wordsOf fs
+unfolding wordsOf
+words-append [] fs = refl
+words-append (e ∷ es) fs = ap (λ (l : List ℕ). e .offset ∷ e .mark ∷ e .label ∷ l) (words-append es fs)
+
+-- three words more
+take-three : (ev : List ℕ) (k : ℕ) → k + 3 ≤ length ev → take (k + 3) ev ≡ take k ev ++ (getD ev k 0 ∷ getD ev (k + 1) 0 ∷ getD ev (k + 2) 0 ∷ [])
+take-three ev k h =
+    let a : take (suc k) ev ≡ take k ev ++ (getD ev k 0 ∷ []) = take-suc ev k 0 (omega arith) in
+    let b : take (suc (suc k)) ev ≡ take (suc k) ev ++ (getD ev (suc k) 0 ∷ []) = take-suc ev (suc k) 0 (omega arith) in
+    let c : take (suc (suc (suc k))) ev ≡ take (suc (suc k)) ev ++ (getD ev (suc (suc k)) 0 ∷ []) = take-suc ev (suc (suc k)) 0 (omega arith) in
+    let e : k + 3 ≡ suc (suc (suc k)) = omega arith in
+    rw (e, c, b, a, add-one, add-two) (simp append-assoc)
+
+pub words-front : (n : ℕ) (ev : List ℕ) → n * 3 ≤ length ev → wordsOf (eventsOf n ev) ≡ take (n * 3) ev
+unfolding wordsOf eventsOf
+words-front zero ev h = refl
+words-front (suc n) ev h =
+    let e : suc n * 3 ≡ n * 3 + 3 = omega arith in
+    words-append (eventsOf n ev) (eventAt ev n ∷ []) ∙ rw (words-front n ev (omega arith), e) (sym (take-three ev (n * 3) (omega arith)))
+
+-- what was noted is known by its words
+pub words-injective : (es fs : List Event) → wordsOf es ≡ wordsOf fs → es ≡ fs
+unfolding wordsOf
+words-injective [] [] h = refl
+words-injective [] (f ∷ fs) h = absurd (omega (arith, ap length h))
+words-injective (e ∷ es) [] h = absurd (omega (arith, ap length h))
+words-injective (e ∷ es) (f ∷ fs) h =
+    let a : e .offset ≡ f .offset = ap (λ (l : List ℕ). getD l 0 0) h in
+    let b : e .mark ≡ f .mark = ap (λ (l : List ℕ). getD l 1 0) h in
+    let c : e .label ≡ f .label = ap (λ (l : List ℕ). getD l 2 0) h in
+    let r : es ≡ fs = words-injective es fs (ap (λ (l : List ℕ). drop 3 l) h) in
+    λ i. record { offset = a i; mark = b i; label = c i } ∷ r i

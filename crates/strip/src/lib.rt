@@ -1,0 +1,151 @@
+// From a chest's test results to the printed strip, or a message that names the line and what is wrong. Nothing is printed of a sheet
+// that can't be printed whole.
+// In order: messages; printing; the whole run.
+use build::Why;
+use pallets::Checked;
+use pallets::Fault;
+use rows::Built;
+
+// ---- messages
+
+// Writes where a message belongs.
+fn tell_line(fd: i32, line: usize) {
+    io::write_all(fd, b"line ");
+    io::print_decimal(fd, line as u64);
+    io::write_all(fd, b": ");
+}
+
+// Writes what is wrong with a line.
+fn tell_fault(fd: i32, fault: Fault) -> bool {
+    match fault {
+        Fault::TooLong => io::write_all(fd, b"it is longer than 200 bytes\n"),
+        Fault::NotUtf8 => io::write_all(fd, b"it is not UTF-8\n"),
+        Fault::Control => io::write_all(fd, b"it has a control character\n"),
+        Fault::NoForce => io::write_all(
+            fd,
+            b"the force is missing (note;force;pluck point;remark)\n",
+        ),
+        Fault::NoPluck => io::write_all(
+            fd,
+            b"the pluck point is missing (note;force;pluck point;remark)\n",
+        ),
+        Fault::NoRemark => io::write_all(
+            fd,
+            b"the ; before the remark is missing (note;force;pluck point;remark)\n",
+        ),
+        Fault::Note => io::write_all(fd, b"the note has no or more than 5 characters\n"),
+        Fault::Force => io::write_all(fd, b"the force is no whole number of grams, 0 to 9999\n"),
+        Fault::Pluck => io::write_all(
+            fd,
+            b"the pluck point is no number of millimetres like 1.2\n",
+        ),
+    }
+}
+
+// Writes why a line doesn't fit.
+fn tell_full(fd: i32, why: Why) -> bool {
+    match why {
+        Why::Nodes => io::write_all(
+            fd,
+            b"this is the first line that does not fit in the table's 1,024 nodes\n",
+        ),
+        Why::Bytes => io::write_all(
+            fd,
+            b"this is the first line that does not fit in the 65,536 bytes of text\n",
+        ),
+        Why::Sizes => io::write_all(fd, b"the constructors answer 1\n"),
+        Why::Operand => io::write_all(fd, b"the constructors answer 11\n"),
+        Why::Amount => io::write_all(fd, b"the constructors answer 3\n"),
+        Why::Text => io::write_all(fd, b"the constructors answer 5\n"),
+    }
+}
+
+// ---- printing
+
+// The first so many bytes, or all.
+fn bytes_front(s: &[u8], n: usize) -> &[u8] {
+    if s.len() < n {
+        return s;
+    }
+    &s[..n]
+}
+
+// The first so many words, or all.
+fn words_front(s: &[u32], n: usize) -> &[u32] {
+    if s.len() < n {
+        return s;
+    }
+    &s[..n]
+}
+
+// Prints one line with its margin: `! ` where a mark is open.
+fn print_line(fd: i32, line: &[u8], marked: bool) {
+    if marked {
+        io::write_all(fd, b"! ");
+    } else {
+        io::write_all(fd, b"  ");
+    }
+    io::write_all(fd, line);
+    io::write_all(fd, b"\n");
+}
+
+// Prints every line of the output with its margin.
+fn print_all(fd: i32, out: &[u8], events: &[u32]) {
+    let mut at = 0;
+    while at < out.len() {
+        let end = pallets::part_end(out, at, 10);
+        print_line(fd, &out[at..end], pallets::marked(events, at));
+        if out.len() <= end {
+            return;
+        }
+        at = end + 1;
+    }
+}
+
+// Lays the sheet out and prints it, or says what the layout answered.
+fn lay_out(table: &[u32], text: &[u8], print: i32, tell: i32) {
+    let mut out = [0u8; 65536];
+    let mut events = [0u32; 12288];
+    let mut work = [0u32; 16384];
+    let r = sheet::sheet(table, text, &mut out, &mut events, &mut work);
+    if r.answer != 0 {
+        io::write_all(tell, b"the layout answers ");
+        io::print_decimal(tell, r.answer as u64);
+        io::write_all(tell, b"\n");
+        return;
+    }
+    let used = r.used as usize;
+    let words = r.marks as usize * 3;
+    print_all(print, bytes_front(&out, used), words_front(&events, words));
+}
+
+// ---- the whole run
+
+// Checks the results, builds their sheet, lays it out and prints it.
+pub fn run(input: &[u8], print: i32, tell: i32) {
+    let checked = pallets::check(input);
+    if let Checked::FaultAt(line, fault) = checked {
+        tell_line(tell, line);
+        tell_fault(tell, fault);
+        return;
+    }
+    let mut table = [0u32; 4096];
+    let mut text = [0u8; 65536];
+    let built = rows::build(input, &mut table, &mut text);
+    match built {
+        Built::Full(line, why) => {
+            tell_line(tell, line);
+            tell_full(tell, why);
+        }
+        Built::Sheet(c, n) => {
+            let words = n.0 as usize * 4 + 4;
+            let bytes = c.bytes as usize;
+            lay_out(
+                words_front(&table, words),
+                bytes_front(&text, bytes),
+                print,
+                tell,
+            );
+        }
+    }
+}
