@@ -95,7 +95,7 @@ fn less_one(n: usize) -> usize
 }
 
 // Amount 0 to 1,000; 0 adds, 1 subtracts.
-fn nest_right(amount: Indent, way: u32) -> bool
+pub fn nest_right(amount: Indent, way: u32) -> bool
     ensures { λ r. ⌜ r ≡ nestRight (amount .0) way ⌝ }
 {
     amount.0 <= 1000 && way <= 1

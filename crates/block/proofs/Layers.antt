@@ -1,0 +1,214 @@
+-- Each layer of a block only adds nodes, and answers one that is there.
+--     below-take, below-drop, of-below    parts of a list of present nodes
+--     On, on-more                         all that an alternative has at hand is there, and stays there
+--     list-adds .. layouts-adds           each layer
+-- Assumes nothing.
+use Prim.Native.Nat.{ℕ, zero, suc, _+_, _≤_, _<_}
+use native.Mathlib.Omega.{arith}
+use native.Mathlib.Numerals.{add-one}
+use mathlib.Core.Path.{_≡_, refl, ap, _∙_}
+use mathlib.Core.Bool.{Bool, true, false, _&&_}
+use mathlib.Core.List.{List, [], _∷_}
+use lib.ListN.{length, getD, take, drop, drop-of-length-le}
+use lib.Seq.{drop-cons}
+use lib.Dec.{ltb}
+use borrow.Author.Tests.{lt-ltb}
+use Rattle.table.specs.Pick.{pick}
+use Rattle.build.specs.declared.Counts.{Counts}
+use Rattle.build.specs.Sheet.{Sheet, Built, older}
+use Rattle.build.specs.Parts.{isNil, concat, nil, append, group, flatAlt, nest, union, fail}
+use Rattle.build.specs.Constructors.{has, hasAll}
+use Rattle.build.proofs.Grow.{more-nodes}
+use Rattle.build.proofs.Joins.{Below, below-more}
+use Rattle.build.proofs.Only.{Adds, adds-then, older-adds, pick-adds, nil-adds, fail-adds, flatAlt-adds, union-adds, append-adds, group-adds, nest-adds, concat-adds}
+use Rattle.block.specs.declared.Block.{Block}
+use Rattle.block.specs.declared.Shared.{Shared}
+use Rattle.block.specs.Block.{list, allNil, bare, guarded, nested, head, core, wrap, wraps, tail, alternative, unions, layouts}
+
+-- ---- present nodes
+
+pub below-take : (N k : ℕ) (ns : List ℕ) → Below N ns → Below N (take k ns)
+below-take N zero ns b = tt
+below-take N (suc k) [] b = tt
+below-take N (suc k) (n ∷ ns) b = (b .0, below-take N k ns (b .1))
+
+pub below-drop : (N k : ℕ) (ns : List ℕ) → Below N ns → Below N (drop k ns)
+below-drop N zero ns b = b
+below-drop N (suc k) [] b = tt
+below-drop N (suc k) (n ∷ ns) b = below-drop N k ns (b .1)
+
+pub of-below : (c : Counts) (ns : List ℕ) → Below (c .nodes) ns → hasAll c ns ≡ true
+unfolding hasAll
+of-below c [] b = refl
+of-below c (n ∷ ns) b = rw (lt-ltb n (c .nodes) (b .0), of-below c ns (b .1)) refl
+
+-- a node that is there stays there
+pub stays-there : {s : Sheet} {b : Built} → Adds s b → {n : ℕ} → n < s .counts .nodes → n < b .sheet .counts .nodes
+stays-there a h = let g = more-nodes (a .grown) in omega arith
+
+pub stay-below : {s : Sheet} {b : Built} → Adds s b → (ns : List ℕ) → Below (s .counts .nodes) ns → Below (b .sheet .counts .nodes) ns
+stay-below a ns h = below-more ns (more-nodes (a .grown)) h
+
+-- ---- a list, and whether all of it is Nil
+
+pub list-none : (s : Sheet) (none : ℕ) (ns : List ℕ) → length ns ≡ 0 → list s none ns ≡ older s none
+unfolding list
+list-none s none [] e = refl
+list-none s none (n ∷ ns) e = absurd (omega arith)
+
+pub list-some : (s : Sheet) (none : ℕ) (ns : List ℕ) → (length ns ≡ 0 → ⊥) → list s none ns ≡ concat s ns
+unfolding list
+list-some s none [] e = absurd (e refl)
+list-some s none (n ∷ ns) e = refl
+
+module _ (s : Sheet) (ns : List ℕ) where
+  pub nil-next : (i : ℕ) → i < length ns → isNil s (getD ns i 0) ≡ true → allNil s (drop i ns) ≡ allNil s (drop (i + 1) ns)
+  unfolding allNil
+  nil-next i h e = ap (allNil s) (drop-cons ns i 0 h) ∙ rw (e, add-one) refl
+
+  pub nil-not : (i : ℕ) → i < length ns → isNil s (getD ns i 0) ≡ false → allNil s (drop i ns) ≡ false
+  unfolding allNil
+  nil-not i h e = ap (allNil s) (drop-cons ns i 0 h) ∙ rw e refl
+
+  pub nil-end : (i : ℕ) → length ns ≤ i → allNil s (drop i ns) ≡ true
+  unfolding allNil
+  nil-end i h = ap (allNil s) (drop-of-length-le ns h)
+
+-- ---- one layer
+
+module _ (s : Sheet) where
+  abbrev N : ℕ
+  N = s .counts .nodes
+
+  pub list-adds : (none : ℕ) (ns : List ℕ) → none < N → Below N ns → Adds s (list s none ns)
+  unfolding list
+  list-adds none [] h b = older-adds s none h
+  list-adds none (n ∷ ns) h b = concat-adds s (n ∷ ns) b
+
+  pub guarded-adds : (sh : Shared) (n : ℕ) (q : Bool) → sh .guard .0 < N → n < N → Adds s (guarded s sh n q)
+  unfolding guarded
+  guarded-adds sh n q g h = pick-adds s q (append s n (sh .guard .0)) (older s n) (append-adds s n (sh .guard .0) h g) (older-adds s n h)
+
+  pub nested-adds : (b : Block) (n : ℕ) (q : Bool) → n < N → Adds s (nested s b n q)
+  unfolding nested
+  nested-adds b n q h = pick-adds s q (nest s n (b .amount .0) (b .way)) (older s n) (nest-adds s n (b .amount .0) (b .way) h) (older-adds s n h)
+
+-- ---- in order
+
+-- a group around what was made
+grouped : {s : Sheet} {b : Built} → Adds s b → Adds s (group (b .sheet) (b .node))
+grouped {s} {b} a = adds-then a (group-adds (b .sheet) (b .node) (a .present))
+
+pub head-adds : (s : Sheet) (sh : Shared) (before : List ℕ) → sh .none .0 < s .counts .nodes → sh .guard .0 < s .counts .nodes → Below (s .counts .nodes) before → Adds s (head s sh before)
+unfolding head
+head-adds s sh before n g b =
+    let first = list-adds s (sh .none .0) before n b in
+    let joined = list s (sh .none .0) before in
+    grouped (adds-then first (guarded-adds (joined .sheet) sh (joined .node) (ltb 1 (length before)) (stays-there first g) (first .present)))
+
+pub core-adds : (s : Sheet) (b : Block) (sh : Shared) (q : Bool) (after : List ℕ) → b .body .0 < s .counts .nodes → sh .none .0 < s .counts .nodes → sh .guard .0 < s .counts .nodes → Below (s .counts .nodes) after → Adds s (core s b sh q after)
+unfolding core
+core-adds s b sh q after h n g l =
+    let joined = guarded s sh (b .body .0) q in
+    let first = guarded-adds s sh (b .body .0) q g h in
+    let inner = nested (joined .sheet) b (joined .node) true in
+    let second = adds-then first (nested-adds (joined .sheet) b (joined .node) true (first .present)) in
+    let suffixes = list (inner .sheet) (sh .none .0) after in
+    let third = list-adds (inner .sheet) (sh .none .0) after (stays-there second n) (stay-below second after l) in
+    adds-then second (adds-then third (append-adds (suffixes .sheet) (inner .node) (suffixes .node) (stays-there third (second .present)) (third .present)))
+
+pub wrap-adds : (s : Sheet) (b : Block) (n prefix : ℕ) (q : Bool) → n < s .counts .nodes → prefix < s .counts .nodes → Adds s (wrap s b n prefix q)
+unfolding wrap
+wrap-adds s b n prefix q h p =
+    let joined = append s prefix n in
+    let first = append-adds s prefix n p h in
+    grouped (adds-then first (nested-adds (joined .sheet) b (joined .node) q (first .present)))
+
+pub wraps-adds : (s : Sheet) (b : Block) (n : ℕ) (ps : List ℕ) (qs : List Bool) → n < s .counts .nodes → Below (s .counts .nodes) ps → Adds s (wraps s b n ps qs)
+unfolding wraps
+wraps-adds s b n [] qs h l = older-adds s n h
+wraps-adds s b n (p ∷ ps) [] h l = older-adds s n h
+wraps-adds s b n (p ∷ ps) (q ∷ qs) h l =
+    let inner = wraps-adds s b n ps qs h (l .1) in
+    adds-then inner (wrap-adds (wraps s b n ps qs .sheet) b (wraps s b n ps qs .node) p q (inner .present) (stays-there inner (l .0)))
+
+pub tail-adds : (s : Sheet) (sh : Shared) (n : ℕ) (before : List ℕ) → sh .none .0 < s .counts .nodes → n < s .counts .nodes → Below (s .counts .nodes) before → Adds s (tail s sh n before)
+unfolding tail
+tail-adds s sh n before e h l =
+    let suffixes = list s (sh .none .0) before in
+    let first = list-adds s (sh .none .0) before e l in
+    grouped (adds-then first (append-adds (suffixes .sheet) n (suffixes .node) (stays-there first h) (first .present)))
+
+-- ---- the alternatives
+
+-- all that an alternative has at hand is there
+pub record On (N : ℕ) (b : Block) (sh : Shared) (prefixes suffixes : List ℕ) : Type 0 where
+  pub body : b .body .0 < N
+  pub none : sh .none .0 < N
+  pub guard : sh .guard .0 < N
+  pub before : Below N prefixes
+  pub behind : Below N suffixes
+
+pub on-more : {N M : ℕ} {b : Block} {sh : Shared} {prefixes suffixes : List ℕ} → N ≤ M → On N b sh prefixes suffixes → On M b sh prefixes suffixes
+on-more {prefixes = prefixes} {suffixes = suffixes} h o =
+    record { body = omega (arith, o .body); none = omega (arith, o .none); guard = omega (arith, o .guard); before = below-more prefixes h (o .before); behind = below-more suffixes h (o .behind) }
+
+pub on-still : {s : Sheet} {x : Built} {b : Block} {sh : Shared} {prefixes suffixes : List ℕ} → Adds s x → On (s .counts .nodes) b sh prefixes suffixes → On (x .sheet .counts .nodes) b sh prefixes suffixes
+on-still a o = on-more (more-nodes (a .grown)) o
+
+module _ (b : Block) (sh : Shared) (prefixes suffixes : List ℕ) (nests : List Bool) where
+  module _ (s : Sheet) (split : ℕ) (o : On (s .counts .nodes) b sh prefixes suffixes) where
+    abbrev front : Built
+    front = head s sh (take split prefixes)
+
+    abbrev middle : Built
+    middle = core (front .sheet) b sh (bare (front .sheet) (take split prefixes)) (drop split suffixes)
+
+    abbrev wrapped : Built
+    wrapped = wraps (middle .sheet) b (middle .node) (drop split prefixes) (drop split nests)
+
+    abbrev back : Built
+    back = tail (wrapped .sheet) sh (wrapped .node) (take split suffixes)
+
+    pub front-adds : Adds s front
+    front-adds = head-adds s sh (take split prefixes) (o .none) (o .guard) (below-take _ split prefixes (o .before))
+
+    pub middle-adds : Adds (front .sheet) middle
+    middle-adds =
+        let p = on-still front-adds o in
+        core-adds (front .sheet) b sh (bare (front .sheet) (take split prefixes)) (drop split suffixes) (p .body) (p .none) (p .guard) (below-drop _ split suffixes (p .behind))
+
+    pub wrapped-adds : Adds (middle .sheet) wrapped
+    wrapped-adds =
+        let p = on-still middle-adds (on-still front-adds o) in
+        wraps-adds (middle .sheet) b (middle .node) (drop split prefixes) (drop split nests) (middle-adds .present) (below-drop _ split prefixes (p .before))
+
+    pub back-adds : Adds (wrapped .sheet) back
+    back-adds =
+        let p = on-still wrapped-adds (on-still middle-adds (on-still front-adds o)) in
+        tail-adds (wrapped .sheet) sh (wrapped .node) (take split suffixes) (p .none) (wrapped-adds .present) (below-take _ split suffixes (p .behind))
+
+    pub front-there : front .node < back .sheet .counts .nodes
+    front-there = stays-there back-adds (stays-there wrapped-adds (stays-there middle-adds (front-adds .present)))
+
+    pub join-adds : Adds (back .sheet) (alternative s b sh prefixes suffixes nests split)
+    unfolding alternative
+    join-adds = append-adds (back .sheet) (front .node) (back .node) front-there (back-adds .present)
+
+    pub alternative-adds : Adds s (alternative s b sh prefixes suffixes nests split)
+    alternative-adds = adds-then front-adds (adds-then middle-adds (adds-then wrapped-adds (adds-then back-adds join-adds)))
+
+  -- the union with what stands
+  pub both-adds : (s : Sheet) (n split : ℕ) → On (s .counts .nodes) b sh prefixes suffixes → Adds s (let other = alternative s b sh prefixes suffixes nests split in union (other .sheet) n (other .node))
+  both-adds s n split o =
+      let other = alternative s b sh prefixes suffixes nests split in
+      adds-then (alternative-adds s split o) (union-adds (other .sheet) n (other .node))
+
+  pub unions-adds : (s : Sheet) (n split : ℕ) → n < s .counts .nodes → On (s .counts .nodes) b sh prefixes suffixes → Adds s (unions s b sh prefixes suffixes nests n split)
+  unfolding unions
+  unions-adds s n zero h o = older-adds s n h
+  unions-adds s n (suc split) h o =
+      let a = both-adds s n (suc split) o in
+      let other = alternative s b sh prefixes suffixes nests (suc split) in
+      let both = union (other .sheet) n (other .node) in
+      adds-then a (unions-adds (both .sheet) (both .node) split (a .present) (on-still a o))
