@@ -1,25 +1,23 @@
 -- What the alternatives of a block make of a sheet without a fault, and the promise of the whole.
 --     alternative-makes, unions-makes, layouts-makes, block-makes, format-promise
 -- Assumes nothing.
-use Prim.Native.Nat.{ℕ, zero, suc, _+_, _≤_, _<_}
+use Prim.Native.Nat.{ℕ, zero, suc, _≤_, _<_}
 use native.Mathlib.Omega.{arith}
 use mathlib.Core.Path.{_≡_, refl, sym, ap, ap₂, _∙_}
 use mathlib.Core.Bool.{Bool, true, false, _&&_}
 use mathlib.Core.List.{List, [], _∷_, map}
 use lib.ListN.{length, take, drop}
-use lib.Dec.{ltb, leb}
+use lib.Dec.{leb}
 use borrow.Author.Tests.{ltb-true, leb-true}
 use Rattle.table.specs.Pick.{pick}
 use Rattle.table.specs.Document.{Doc, nil, flatAlt, union, fail}
-use Rattle.table.specs.declared.NodeNo.{NodeNo}
 use Rattle.table.proofs.Tests.{and-true}
 use Rattle.build.specs.declared.Counts.{Counts}
 use Rattle.build.specs.declared.Why.the-variants.{Sizes}
-use Rattle.build.specs.declared.Made.{Made}
-use Rattle.build.specs.declared.Made.the-variants.{Node, Refused}
+use Rattle.build.specs.declared.Made.the-variants.{Refused}
 use Rattle.build.specs.Sheet.{Sheet, Built, counted}
 use Rattle.build.specs.Parts as parts
-use Rattle.build.specs.Outcome.{Outcome, outcome, made}
+use Rattle.build.specs.Outcome.{outcome, made}
 use Rattle.build.specs.Constructors.{has, hasAll, nestRight}
 use Rattle.build.specs.Documents.{appendDoc}
 use Rattle.build.specs.Promise.{docAt, Promise}
@@ -142,3 +140,8 @@ format-promise c table text b prefixes suffixes nests = by (sizesRight (length p
         let z = and-true (leb (b .amount .0) 1000) (leb (b .way) 1) a in
         block-makes k b prefixes suffixes nests (leb-true _ _ (z .0)) (leb-true _ _ (z .1)) (ltb-true _ _ (x .0)) (below-of c prefixes (y .0)) (below-of c suffixes (y .1)))
     by false = λ c′ n e v. let z : _≡_ {A = ℕ} 0 1 = cc in absurd (omega arith)
+
+-- affixes too many, or not as many of each
+pub format-sizes : (c : Counts) (table text : List ℕ) (b : Block) (prefixes suffixes : List ℕ) (nests : List Bool) → sizesRight (length prefixes) (length suffixes) (length nests) ≡ false → outcome (Refused Sizes) table text ≡ formatMade c table text b prefixes suffixes nests
+unfolding formatMade
+format-sizes c table text b prefixes suffixes nests e = rw e refl

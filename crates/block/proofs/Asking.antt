@@ -2,18 +2,17 @@
 --     asked-more       what is denied with fewer nodes is denied with more
 --     within-refused, within-body, within-asks, within-last
 -- Assumes nothing.
-use Prim.Native.Nat.{ℕ, zero, suc, _+_, _-_, _/_, _≤_, _<_}
+use Prim.Native.Nat.{ℕ, suc, _+_, _-_, _/_, _≤_, _<_}
 use native.Mathlib.Omega.{arith}
 use native.Mathlib.Nat.{add-zero}
-use mathlib.Core.Path.{_≡_, refl, sym, ap, _∙_, subst}
+use mathlib.Core.Path.{_≡_, refl, sym, ap, _∙_}
 use mathlib.Core.Bool.{Bool, true, false, not, _&&_, true≢false}
 use mathlib.Core.List.{List, [], _∷_}
 use lib.ListN.{length}
 use lib.Dec.{eqb, leb}
-use borrow.Author.Tests.{ltb-true, leb-true, eqb-true, eq-eqb, ne-eqb}
+use borrow.Author.Tests.{ltb-true, eqb-true, eq-eqb, ne-eqb}
 use Rattle.table.specs.Pick.{pick}
 use Rattle.table.proofs.Tests.{and-true}
-use Rattle.table.specs.declared.NodeNo.{NodeNo}
 use Rattle.build.specs.declared.Counts.{Counts}
 use Rattle.build.specs.declared.Why.{Why}
 use Rattle.build.specs.declared.Why.the-variants.{Sizes, Operand, Amount, Text, Bytes, Nodes}
@@ -22,15 +21,14 @@ use Rattle.build.specs.declared.Made.the-variants.{Node, Refused}
 use Rattle.build.specs.declared.Asked.{Asked}
 use Rattle.build.specs.declared.Asked.the-variants.{Granted, Denied}
 use Rattle.build.specs.Sheet.{Sheet, Built, counted, older}
-use Rattle.build.specs.Outcome.{past, fits, asked, outcome, added, made}
+use Rattle.build.specs.Outcome.{past, fits, asked, outcome, made}
 use Rattle.build.specs.Constructors.{has, hasAll, nestRight}
 use Rattle.build.proofs.Room.{Passed, passed, fits-of}
 use Rattle.build.proofs.Stand.{made-granted, made-denied, made-same}
-use Rattle.build.proofs.Joins.{Below, below-of}
-use Rattle.build.proofs.Only.{Adds}
+use Rattle.build.proofs.Joins.{below-of}
 use Rattle.block.specs.declared.Block.{Block}
 use Rattle.block.specs.Block.{layouts, blockOf, sizesRight, operands, least}
-use Rattle.block.specs.Run.{Ready, Bodied, Even, Askable, Ran}
+use Rattle.block.specs.Run.{Ready, Askable}
 use Rattle.block.proofs.Chain.{no-room, ran-older}
 use Rattle.block.proofs.Starts.{layouts-adds, layouts-three}
 

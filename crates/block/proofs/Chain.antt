@@ -5,7 +5,7 @@
 --     go, go-made, at, stop   one part more; its answer taken apart; handed on
 --     first-stops .. group-last   two parts and a group
 -- Assumes nothing.
-use Prim.Native.Nat.{ℕ, _+_, _*_, _/_, _≤_, _<_}
+use Prim.Native.Nat.{ℕ, _/_, _≤_, _<_}
 use native.Mathlib.Omega.{arith}
 use native.Mathlib.Decide.{decLt}
 use mathlib.Core.Path.{_≡_, refl, sym, ap, _∙_, subst}
@@ -21,7 +21,7 @@ use Rattle.build.specs.declared.Made.{Made}
 use Rattle.build.specs.declared.Made.the-variants.{Node, Refused}
 use Rattle.build.specs.Sheet.{Sheet, Built, counted, older}
 use Rattle.build.specs.Parts.{group}
-use Rattle.build.specs.Outcome.{fits, Outcome, outcome, added, made}
+use Rattle.build.specs.Outcome.{fits, Outcome, outcome, made}
 use Rattle.build.specs.Constructors.{has, hasAll, groupMade}
 use Rattle.build.proofs.Grow.{Grown, same, then, more-nodes, more-bytes}
 use Rattle.build.proofs.Room.{Fits, fits-of, of-fits, stretch, Room}

@@ -7,23 +7,22 @@ use Prim.Native.Nat.{ℕ, zero, suc, _+_, _≤_, _<_}
 use native.Mathlib.Omega.{arith}
 use native.Mathlib.Numerals.{add-one}
 use mathlib.Core.Path.{_≡_, refl, ap, _∙_}
-use mathlib.Core.Bool.{Bool, true, false, _&&_}
+use mathlib.Core.Bool.{Bool, true, false}
 use mathlib.Core.List.{List, [], _∷_}
 use lib.ListN.{length, getD, take, drop, drop-of-length-le}
 use lib.Seq.{drop-cons}
 use lib.Dec.{ltb}
 use borrow.Author.Tests.{lt-ltb}
-use Rattle.table.specs.Pick.{pick}
 use Rattle.build.specs.declared.Counts.{Counts}
 use Rattle.build.specs.Sheet.{Sheet, Built, older}
-use Rattle.build.specs.Parts.{isNil, concat, nil, append, group, flatAlt, nest, union, fail}
-use Rattle.build.specs.Constructors.{has, hasAll}
+use Rattle.build.specs.Parts.{isNil, concat, append, group, nest, union}
+use Rattle.build.specs.Constructors.{hasAll}
 use Rattle.build.proofs.Grow.{more-nodes}
 use Rattle.build.proofs.Joins.{Below, below-more}
-use Rattle.build.proofs.Only.{Adds, adds-then, older-adds, pick-adds, nil-adds, fail-adds, flatAlt-adds, union-adds, append-adds, group-adds, nest-adds, concat-adds}
+use Rattle.build.proofs.Only.{Adds, adds-then, older-adds, pick-adds, union-adds, append-adds, group-adds, nest-adds, concat-adds}
 use Rattle.block.specs.declared.Block.{Block}
 use Rattle.block.specs.declared.Shared.{Shared}
-use Rattle.block.specs.Block.{list, allNil, bare, guarded, nested, head, core, wrap, wraps, tail, alternative, unions, layouts}
+use Rattle.block.specs.Block.{list, allNil, bare, guarded, nested, head, core, wrap, wraps, tail, alternative, unions}
 
 -- ---- present nodes
 

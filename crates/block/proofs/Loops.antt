@@ -3,14 +3,13 @@
 --     Wrapping, wrap-start .. wrap-end      what is wrapped so far
 --     Left, left-start .. left-end          what is left to unite comes to the whole
 -- Assumes nothing.
-use Prim.Native.Nat.{ℕ, zero, suc, _+_, _-_, _/_, _≤_, _<_}
+use Prim.Native.Nat.{ℕ, zero, suc, _-_, _≤_, _<_}
 use native.Mathlib.Omega.{arith}
 use native.Mathlib.Nat.{not-suc-le-zero, le-of-suc-le-suc}
-use mathlib.Core.Path.{_≡_, refl, sym, ap, ap₂, _∙_, subst}
-use mathlib.Core.Bool.{Bool, true, false, true≢false, _&&_}
+use mathlib.Core.Path.{_≡_, refl, sym, ap₂, _∙_, subst}
+use mathlib.Core.Bool.{Bool, true, false, true≢false}
 use mathlib.Core.List.{List, [], _∷_}
 use lib.ListN.{length, getD, drop, drop-of-length-le}
-use borrow.Author.Tests.{lt-ltb}
 use Rattle.table.specs.declared.NodeNo.{NodeNo}
 use Rattle.build.specs.declared.Counts.{Counts}
 use Rattle.build.specs.declared.Why.{Why}
@@ -18,18 +17,18 @@ use Rattle.build.specs.declared.Made.{Made}
 use Rattle.build.specs.declared.Made.the-variants.{Node, Refused}
 use Rattle.build.specs.Sheet.{Sheet, Built, counted, older}
 use Rattle.build.specs.Parts.{union}
-use Rattle.build.specs.Outcome.{fits, outcome, made}
-use Rattle.build.specs.Constructors.{has, hasAll, unionMade}
+use Rattle.build.specs.Outcome.{outcome}
+use Rattle.build.specs.Constructors.{hasAll, unionMade}
 use Rattle.build.proofs.Grow.{same}
 use Rattle.build.proofs.Room.{of-fits}
-use Rattle.build.proofs.Stand.{Stands, stands-counted, done}
+use Rattle.build.proofs.Stand.{stands-counted, done}
 use Rattle.build.proofs.Joins.{Below, below-of, below-more}
 use Rattle.build.proofs.Only.{Adds, adds-then, union-adds}
 use Rattle.block.specs.declared.Block.{Block}
 use Rattle.block.specs.declared.Shared.{Shared}
 use Rattle.block.specs.Block.{wrap, wraps, alternative, unions}
-use Rattle.block.specs.Run.{Ready, Shares, Bodied, Hand, Ran}
-use Rattle.block.proofs.Layers.{below-drop, of-below, stays-there, wrap-adds, wraps-adds, On, on-still, alternative-adds, both-adds, unions-adds}
+use Rattle.block.specs.Run.{Ready, Bodied, Hand, Ran}
+use Rattle.block.proofs.Layers.{below-drop, of-below, stays-there, wrap-adds, wraps-adds, On, on-still, alternative-adds, unions-adds}
 use Rattle.block.proofs.Chain.{At, begin, ready, later, start-node, start-list, go, go-made, at, at-adds, stop, counted-node}
 use Rattle.block.proofs.Steps.{shares-later, bodied-later, two}
 

@@ -1,19 +1,17 @@
 -- What each layer of a block makes of a sheet without a fault: one without a fault, and a node that unfolds to its document.
 --     list-makes .. block-makes
 -- Assumes nothing.
-use Prim.Native.Nat.{ℕ, zero, suc, _+_, _≤_, _<_}
-use native.Mathlib.Omega.{arith}
+use Prim.Native.Nat.{ℕ, zero, suc, _≤_, _<_}
 use mathlib.Core.Path.{_≡_, refl, sym, ap, ap₂, _∙_}
 use mathlib.Core.Bool.{Bool, true, false, _&&_}
 use mathlib.Core.List.{List, [], _∷_, map}
 use lib.ListN.{length, take, drop}
 use lib.Dec.{ltb}
 use Rattle.table.specs.Pick.{pick}
-use Rattle.table.specs.Document.{Doc, nil, flatAlt, union, fail}
-use Rattle.build.specs.Sheet.{Sheet, Built, older}
-use Rattle.build.specs.Parts as parts
-use Rattle.build.specs.Documents.{isNilDoc, appendDoc, groupDoc, nestDoc, concatDoc}
-use Rattle.build.proofs.Grow.{same, more-nodes}
+use Rattle.table.specs.Document.{Doc, nil}
+use Rattle.build.specs.Sheet.{Sheet, Built}
+use Rattle.build.specs.Documents.{appendDoc, nestDoc, concatDoc}
+use Rattle.build.proofs.Grow.{more-nodes}
 use Rattle.build.proofs.Joins.{Below, below-more}
 use Rattle.build.proofs.Clean.{Clean, docOf}
 use Rattle.build.proofs.Says.{nil-is}
@@ -21,8 +19,8 @@ use Rattle.build.proofs.Means.{Makes, there, still, after, meaning, older-makes
 use Rattle.build.proofs.Compose.{docs-still, grouped-makes, concat-makes}
 use Rattle.block.specs.declared.Block.{Block}
 use Rattle.block.specs.declared.Shared.{Shared}
-use Rattle.block.specs.Block.{list, allNil, bare, guarded, nested, head, core, wrap, wraps, tail, alternative, unions, layouts, blockOf}
-use Rattle.block.specs.Documents.{allNilDoc, bareDoc, guardDoc, guardedDoc, headDoc, tailDoc, coreDoc, wrapDoc, wrapsDoc, alternativeDoc, unionsDoc, blockDoc}
+use Rattle.block.specs.Block.{list, allNil, bare, guarded, nested, head, core, wrap, wraps, tail}
+use Rattle.block.specs.Documents.{allNilDoc, bareDoc, guardDoc, guardedDoc, headDoc, tailDoc, coreDoc, wrapDoc, wrapsDoc}
 
 -- ---- one layer
 

@@ -3,13 +3,13 @@
 --     placed-stop, placed-short   no room there, or none in the lent table
 --     placed-copies, placed-last  what is copied, and what it leaves
 -- Assumes nothing.
-use Prim.Native.Nat.{ℕ, zero, suc, _+_, _-_, _*_, _/_, _≤_, _<_}
+use Prim.Native.Nat.{ℕ, _+_, _-_, _*_, _/_, _≤_, _<_}
 use native.Mathlib.Omega.{arith}
 use native.Mathlib.Nat.{zero-add}
-use mathlib.Core.Path.{_≡_, refl, sym, ap, ap₂, _∙_, subst}
+use mathlib.Core.Path.{_≡_, refl, sym, ap, ap₂, _∙_}
 use mathlib.Core.Bool.{Bool, true, false, true≢false}
-use mathlib.Core.List.{List, [], _∷_, _++_, append-assoc}
-use lib.ListN.{length, take, drop, replicate, length-append, length-take, length-replicate}
+use mathlib.Core.List.{List, _++_, append-assoc}
+use lib.ListN.{length, take, drop, replicate, length-append, length-replicate}
 use lib.Seq.{length-take-le, take-at, drop-at}
 use Rattle.buffer.specs.Run.{put}
 use Rattle.buffer.proofs.Put.{length-put, take-put}
@@ -19,7 +19,7 @@ use Rattle.build.specs.declared.Why.{Why}
 use Rattle.build.specs.declared.Why.the-variants.{Nodes}
 use Rattle.build.specs.declared.Made.{Made}
 use Rattle.build.specs.declared.Made.the-variants.{Node, Refused}
-use Rattle.build.specs.Sheet.{Sheet, Built, counted, over}
+use Rattle.build.specs.Sheet.{Built, counted, over}
 use Rattle.build.specs.Outcome.{fits, outcome, added, made}
 use Rattle.build.proofs.Room.{Fits, fits-of, of-fits}
 use Rattle.build.proofs.Stand.{same-words}

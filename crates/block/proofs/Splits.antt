@@ -1,8 +1,8 @@
 -- An alternative, part by part, as the proof of the code asks for them: head, core, wraps, tail, join. Assumes nothing.
-use Prim.Native.Nat.{ℕ, _-_, _≤_, _<_}
+use Prim.Native.Nat.{ℕ, _-_, _<_}
 use native.Mathlib.Omega.{arith}
-use mathlib.Core.Path.{_≡_, refl, sym, ap, _∙_}
-use mathlib.Core.Bool.{Bool, true, _&&_}
+use mathlib.Core.Path.{_≡_, refl}
+use mathlib.Core.Bool.{Bool, true}
 use mathlib.Core.List.{List}
 use lib.ListN.{length, take, drop, length-drop}
 use lib.Seq.{take-all}
@@ -13,15 +13,14 @@ use Rattle.build.specs.declared.Made.{Made}
 use Rattle.build.specs.declared.Made.the-variants.{Node, Refused}
 use Rattle.build.specs.Sheet.{Sheet, Built, counted}
 use Rattle.build.specs.Parts.{append}
-use Rattle.build.specs.Outcome.{outcome, made}
-use Rattle.build.specs.Constructors.{has, hasAll, appendMade}
-use Rattle.build.proofs.Stand.{stands-counted}
+use Rattle.build.specs.Outcome.{outcome}
+use Rattle.build.specs.Constructors.{hasAll, appendMade}
 use Rattle.build.proofs.Only.{Adds, adds-then}
 use Rattle.block.specs.declared.Block.{Block}
 use Rattle.block.specs.declared.Shared.{Shared}
 use Rattle.block.specs.Block.{bare, head, core, wraps, tail, alternative}
 use Rattle.block.specs.Run.{Ready, Shares, Bodied, Hand, Ran}
-use Rattle.block.proofs.Layers.{of-below, below-take, below-drop, stays-there, stay-below, On, on-still, front-adds, middle-adds, wrapped-adds, back-adds, front-there, join-adds}
+use Rattle.block.proofs.Layers.{of-below, below-take, below-drop, On, on-still, front-adds, middle-adds, wrapped-adds, back-adds, front-there, join-adds}
 use Rattle.block.proofs.Chain.{At, ready, go, go-made, at, stop, counted-node, counted-list}
 use Rattle.block.proofs.Steps.{shares-later, bodied-later, two}
 use Rattle.block.proofs.Loops.{on-hand}

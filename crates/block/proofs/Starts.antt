@@ -4,8 +4,8 @@
 -- Assumes nothing.
 use Prim.Native.Nat.{ℕ, suc, _+_, _-_, _≤_, _<_}
 use native.Mathlib.Omega.{arith}
-use mathlib.Core.Path.{_≡_, refl, sym, ap, _∙_, subst}
-use mathlib.Core.Bool.{Bool, true, _&&_}
+use mathlib.Core.Path.{_≡_, refl}
+use mathlib.Core.Bool.{Bool}
 use mathlib.Core.List.{List}
 use lib.ListN.{length}
 use Rattle.table.specs.declared.NodeNo.{NodeNo}
@@ -15,17 +15,17 @@ use Rattle.build.specs.declared.Made.{Made}
 use Rattle.build.specs.declared.Made.the-variants.{Node, Refused}
 use Rattle.build.specs.Sheet.{Sheet, Built, counted}
 use Rattle.build.specs.Parts.{nil, fail, flatAlt}
-use Rattle.build.specs.Outcome.{outcome, made}
-use Rattle.build.specs.Constructors.{has, hasAll, nilMade, failMade, flatAltMade}
+use Rattle.build.specs.Outcome.{outcome}
+use Rattle.build.specs.Constructors.{nilMade, failMade, flatAltMade}
 use Rattle.build.proofs.Grow.{more-nodes}
 use Rattle.build.proofs.Joins.{Below, below-more, below-of}
 use Rattle.build.proofs.Only.{Adds, adds-then, nil-adds, fail-adds, flatAlt-adds}
 use Rattle.block.specs.declared.Block.{Block}
 use Rattle.block.specs.declared.Shared.{Shared}
 use Rattle.block.specs.Block.{alternative, unions, layouts}
-use Rattle.block.specs.Run.{Ready, Shares, Bodied, Hand, Even, Askable, Ran}
+use Rattle.block.specs.Run.{Ready, Hand, Even, Askable, Ran}
 use Rattle.block.proofs.Layers.{of-below, stays-there, stay-below, On, on-still, alternative-adds, unions-adds}
-use Rattle.block.proofs.Chain.{At, begin, ready, later, start-node, start-list, go, go-made, at, stop, counted-node, counted-list}
+use Rattle.block.proofs.Chain.{At, begin, ready, later, start-node, start-list, go, go-made, at, stop, counted-node}
 use Rattle.block.proofs.Steps.{bodied-later, two}
 
 abbrev sharedOf : ℕ → ℕ → Shared

@@ -3,7 +3,7 @@
 --     shares-later, bodied-later, two    what is there stays there
 --     core-stop₁ .. core-last            guard, nest, suffixes, join
 -- Assumes nothing.
-use Prim.Native.Nat.{ℕ, _≤_, _<_}
+use Prim.Native.Nat.{ℕ, _<_}
 use native.Mathlib.Omega.{arith}
 use mathlib.Core.Path.{_≡_, refl}
 use mathlib.Core.Bool.{Bool, true, _&&_}
@@ -16,7 +16,7 @@ use Rattle.build.specs.declared.Made.{Made}
 use Rattle.build.specs.declared.Made.the-variants.{Node, Refused}
 use Rattle.build.specs.Sheet.{Sheet, Built, counted}
 use Rattle.build.specs.Parts.{append}
-use Rattle.build.specs.Outcome.{outcome, made}
+use Rattle.build.specs.Outcome.{outcome}
 use Rattle.build.specs.Constructors.{has, hasAll, appendMade}
 use Rattle.build.proofs.Only.{Adds, adds-then, append-adds}
 use Rattle.block.specs.declared.Block.{Block}

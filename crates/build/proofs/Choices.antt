@@ -1,11 +1,11 @@
 -- Which of its cases a constructor takes: Append, Group, Nest and Text, by what they test. Assumes nothing.
-use Prim.Native.Nat.{ℕ, _+_}
+use Prim.Native.Nat.{ℕ}
 use mathlib.Core.Path.{_≡_, refl}
-use mathlib.Core.Bool.{Bool, true, false}
-use mathlib.Core.List.{List, [], _∷_}
+use mathlib.Core.Bool.{true, false}
+use mathlib.Core.List.{List}
 use lib.ListN.{length}
 use lib.Dec.{eqb}
-use Rattle.build.specs.Sheet.{Sheet, Built, older, add, write}
+use Rattle.build.specs.Sheet.{Sheet, older, add, write}
 use Rattle.build.specs.Parts.{isNil, stays, nil, append, group, nest, text}
 
 module _ (s : Sheet) (a b : ℕ) where

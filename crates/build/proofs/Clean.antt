@@ -3,26 +3,24 @@
 --     clean-old        old nodes have no fault in a sheet that grew; old-doc: and the same documents
 --     clean-add        one node more without a fault; new-doc: what it unfolds to
 -- Assumes nothing.
-use Prim.Native.Nat.{ℕ, suc, _+_, _*_, _≤_, _<_}
+use Prim.Native.Nat.{ℕ, suc, _+_, _<_}
 use native.Mathlib.Omega.{arith}
 use native.Mathlib.Decide.{decLt}
-use mathlib.Core.Path.{_≡_, refl, sym, ap, _∙_}
-use mathlib.Core.Bool.{true}
+use mathlib.Core.Path.{_≡_, sym, ap, _∙_}
 use mathlib.Core.List.{List, [], _∷_, _++_}
 use lib.ListN.{length, getD, take, drop, length-append}
 use lib.Seq.{take-append-seam, take-length}
-use Rattle.table.specs.Node.{Node, nodeOf, nodeAt, word}
-use Rattle.table.specs.Utf8.{wellFormed, ascii}
+use Rattle.table.specs.Node.{nodeOf, nodeAt, word}
 use Rattle.table.specs.Fault.{faultOf, faultAt, firstFault, none}
 use Rattle.table.specs.Accepted.{NodeRight, TextRight}
 use Rattle.table.specs.Valid.{Sound, Valid}
-use Rattle.table.specs.Unfold.{Tree, treeOf, tree}
+use Rattle.table.specs.Unfold.{treeOf, tree}
 use Rattle.table.specs.Document.{Doc, doc}
-use Rattle.table.proofs.Accept.{right-of, of-right, of-clean, clean-of}
+use Rattle.table.proofs.Accept.{right-of, of-right, of-clean}
 use Rattle.table.proofs.Sound.{sound-of}
 use Rattle.table.proofs.Unfolded.{part-same, tree-node, tree-append}
-use Rattle.build.specs.Sheet.{Sheet, Built, add}
-use Rattle.build.proofs.Grow.{Whole, Grown, whole-grown, more-nodes, add-grown}
+use Rattle.build.specs.Sheet.{Sheet, add}
+use Rattle.build.proofs.Grow.{Whole, Grown, whole-grown, add-grown}
 use Rattle.build.proofs.Words.{old-word, new-word}
 
 pub record Clean (s : Sheet) : Type 0 where

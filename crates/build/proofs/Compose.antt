@@ -2,25 +2,25 @@
 --     text-makes, space-makes, line-makes, line₀-makes, softline-makes, softline₀-makes
 --     hang-makes, indent-makes, enclose-makes, joined-makes, concat-makes, intersperse-makes
 -- Assumes nothing.
-use Prim.Native.Nat.{ℕ, zero, suc, _+_, _*_, _≤_, _<_}
+use Prim.Native.Nat.{ℕ, _+_, _≤_, _<_}
 use native.Mathlib.Omega.{arith}
-use mathlib.Core.Path.{_≡_, refl, sym, ap, ap₂, _∙_}
-use mathlib.Core.Bool.{Bool, true, false, _&&_, _||_}
+use mathlib.Core.Path.{_≡_, refl, ap, ap₂, _∙_}
+use mathlib.Core.Bool.{Bool, true, false}
 use mathlib.Core.List.{List, [], _∷_, _++_, map}
 use lib.ListN.{length, take, drop, replicate, length-append}
 use lib.Seq.{take-length, drop-at}
-use lib.Dec.{eqb, ltb, leb}
+use lib.Dec.{eqb, leb}
 use borrow.Author.Tests.{le-leb}
 use Rattle.table.specs.Pick.{pick}
 use Rattle.table.specs.Kinds.{kinds, kindAt}
 use Rattle.table.specs.Utf8.{ascii}
 use Rattle.table.specs.Fault.{columnsRight, faultOf}
 use Rattle.table.specs.Document.{Doc, doc, nil, append, group, flatAlt, hardline, text, align}
-use Rattle.build.specs.Sheet.{Sheet, Built, older, add, write}
+use Rattle.build.specs.Sheet.{Sheet, Built, add, write}
 use Rattle.build.specs.Parts as parts
-use Rattle.build.specs.Documents.{appendDoc, groupDoc, nestDoc, textDoc, spaceDoc, lineDoc, line₀Doc, softlineDoc, softline₀Doc, hangDoc, indentDoc, encloseDoc, joinedDoc, concatDoc, separatedDoc, intersperseDoc}
-use Rattle.build.proofs.Grow.{Whole, Grown, same, then, whole-grown, more-nodes, add-grown, write-grown}
-use Rattle.build.proofs.Clean.{Clean, docOf, clean-old, old-doc, clean-add, new-doc}
+use Rattle.build.specs.Documents.{appendDoc, groupDoc, textDoc, spaceDoc, lineDoc, line₀Doc, softlineDoc, softline₀Doc, hangDoc, indentDoc, encloseDoc, joinedDoc, concatDoc, separatedDoc, intersperseDoc}
+use Rattle.build.proofs.Grow.{same, then, whole-grown, more-nodes, add-grown, write-grown}
+use Rattle.build.proofs.Clean.{Clean, docOf, clean-old, clean-add, new-doc}
 use Rattle.build.proofs.Joins.{Below, below-more}
 use Rattle.build.proofs.Separated.{below-separated}
 use Rattle.build.proofs.Indents.{blanks-right}

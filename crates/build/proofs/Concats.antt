@@ -6,14 +6,11 @@ use Prim.Native.Nat.{ℕ, zero, suc, _+_, _-_, _*_, _/_, _≤_, _<_}
 use native.Mathlib.Omega.{arith}
 use native.Mathlib.Numerals.{add-one}
 use native.Mathlib.Nat.{add-zero, not-suc-le-zero, le-of-suc-le-suc}
-use mathlib.Core.Path.{_≡_, refl, sym, ap, _∙_, subst}
-use mathlib.Core.Bool.{Bool, true, false, _&&_}
-use mathlib.Core.List.{List, [], _∷_, _++_}
+use mathlib.Core.Path.{_≡_, refl, sym, ap, _∙_}
+use mathlib.Core.Bool.{Bool, true}
+use mathlib.Core.List.{List, [], _∷_}
 use lib.ListN.{length, getD, take, drop, drop-of-length-le}
 use lib.Seq.{drop-cons}
-use lib.Dec.{eqb}
-use Rattle.table.specs.Pick.{pick}
-use Rattle.table.specs.Node.{word}
 use Rattle.table.specs.declared.NodeNo.{NodeNo}
 use Rattle.build.specs.declared.Counts.{Counts}
 use Rattle.build.specs.declared.Why.{Why}
@@ -22,11 +19,11 @@ use Rattle.build.specs.declared.Made.the-variants.{Node, Refused}
 use Rattle.build.specs.declared.Asked.{Asked}
 use Rattle.build.specs.declared.Asked.the-variants.{Granted, Denied}
 use Rattle.build.specs.Sheet.{Sheet, Built, counted}
-use Rattle.build.specs.Parts.{append, joined, concat, separated, intersperse}
+use Rattle.build.specs.Parts.{append, joined, concat}
 use Rattle.build.specs.Solid.{solid}
 use Rattle.build.specs.Outcome.{asked, outcome, made}
-use Rattle.build.specs.Constructors.{has, hasAll, nilMade, appendMade, concatMade}
-use Rattle.build.proofs.Grow.{Grown, joined-grown}
+use Rattle.build.specs.Constructors.{hasAll, nilMade, appendMade, concatMade}
+use Rattle.build.proofs.Grow.{joined-grown}
 use Rattle.build.proofs.Joins.{Below, below-of, joined-counts, Along, along-start, along-went, along-next, along-end}
 use Rattle.build.proofs.Stand.{start, Went, refuse, Begun, begin}
 

@@ -9,11 +9,11 @@ use native.Mathlib.Nat.{add-zero}
 use mathlib.Core.Path.{_≡_, refl, sym, ap, _∙_}
 use mathlib.Core.Bool.{Bool, true, false, _||_}
 use mathlib.Core.List.{List, [], _∷_, _++_, append-assoc, append-nil}
-use lib.ListN.{length, length-append, replicate}
+use lib.ListN.{length, length-append}
 use lib.Dec.{eqb}
 use Rattle.table.specs.Pick.{pick}
 use Rattle.build.specs.Sheet.{Sheet, Built, older, add, write}
-use Rattle.build.specs.Parts.{isNil, stays, nil, append, group, flatAlt, nest, hardline, text, align, space, line, line₀, softline, softline₀, hang, indent, enclose, joined, concat, separated, intersperse}
+use Rattle.build.specs.Parts.{isNil, stays, nil, append, group, nest, hardline, text, space, line, line₀, hang, joined}
 
 -- counts say how long table and text are
 pub record Whole (s : Sheet) : Type 0 where

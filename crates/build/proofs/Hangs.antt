@@ -1,12 +1,12 @@
 -- Nest and Align, part by part: `hang`. Assumes nothing.
-use Prim.Native.Nat.{ℕ, _+_, _*_, _/_, _≤_, _<_}
+use Prim.Native.Nat.{ℕ, _+_, _/_, _≤_, _<_}
 use native.Mathlib.Omega.{arith}
 use native.Mathlib.Nat.{add-zero}
 use mathlib.Core.Path.{_≡_, refl, sym, ap, _∙_}
 use mathlib.Core.Bool.{Bool, true, false, _||_}
 use mathlib.Core.List.{List}
 use lib.ListN.{length}
-use lib.Dec.{eqb, ltb}
+use lib.Dec.{eqb}
 use borrow.Author.Tests.{lt-ltb, ltb-true}
 use Rattle.table.specs.Pick.{pick}
 use Rattle.table.specs.declared.NodeNo.{NodeNo}
@@ -15,12 +15,12 @@ use Rattle.build.specs.declared.Why.{Why}
 use Rattle.build.specs.declared.Made.{Made}
 use Rattle.build.specs.declared.Made.the-variants.{Node, Refused}
 use Rattle.build.specs.declared.Asked.the-variants.{Granted, Denied}
-use Rattle.build.specs.Sheet.{Sheet, Built, countsOf, counted, older, add}
+use Rattle.build.specs.Sheet.{Sheet, countsOf, counted, older, add}
 use Rattle.build.specs.Parts.{isNil, nest, align, hang}
 use Rattle.build.specs.Solid.{nestAdds}
-use Rattle.build.specs.Outcome.{asked, outcome, made}
+use Rattle.build.specs.Outcome.{asked, outcome}
 use Rattle.build.specs.Constructors.{has, nestRight, nestMade, alignMade, hangMade}
-use Rattle.build.proofs.Grow.{Grown, same, then, add-grown, nest-grown, hang-grown}
+use Rattle.build.proofs.Grow.{Grown, same, add-grown, nest-grown, hang-grown}
 use Rattle.build.proofs.Stand.{Went, taken, refuse, Begun, begin, step, finish}
 
 pub nest-counts : (s : Sheet) (n amount way : ℕ) → nest s n amount way .sheet .counts ≡ countsOf (s .counts .nodes + nestAdds (s .table) n amount) (s .counts .bytes)

@@ -2,11 +2,11 @@
 use Prim.Native.Nat.{ℕ, zero, suc, _+_, _*_, _/_, _≤_, _<_}
 use native.Mathlib.Omega.{arith}
 use native.Mathlib.Nat.{not-suc-le-zero, le-of-suc-le-suc}
-use mathlib.Core.Path.{_≡_, refl, sym, ap, _∙_, subst}
+use mathlib.Core.Path.{_≡_, refl, ap, _∙_}
 use mathlib.Core.Bool.{Bool, true, false, _||_, _&&_}
-use mathlib.Core.List.{List, [], _∷_, _++_}
+use mathlib.Core.List.{List, [], _∷_}
 use lib.ListN.{length, take, replicate, length-replicate}
-use lib.Dec.{eqb, ltb, leb}
+use lib.Dec.{eqb, leb}
 use borrow.Author.Tests.{lt-ltb, ltb-true, eq-eqb, eqb-true, le-leb, leb-true}
 use Rattle.table.specs.Pick.{pick}
 use Rattle.table.specs.Node.{word}
@@ -22,7 +22,7 @@ use Rattle.build.specs.declared.Asked.the-variants.{Granted, Denied}
 use Rattle.build.specs.Sheet.{Sheet, Built, countsOf, counted, older, add, write}
 use Rattle.build.specs.Parts.{isNil, nil, text, append, hang, indent}
 use Rattle.build.specs.Solid.{nestAdds, indentAdds}
-use Rattle.build.specs.Outcome.{asked, outcome, made}
+use Rattle.build.specs.Outcome.{asked, outcome}
 use Rattle.build.specs.Constructors.{has, nestRight, textMade, appendMade, hangMade, indentMade}
 use Rattle.build.proofs.Grow.{Whole, Grown, same, then, whole-grown, more-nodes, add-grown, write-grown, append-grown, text-grown, hang-grown}
 use Rattle.build.proofs.Words.{old-word, new-word, append-present}

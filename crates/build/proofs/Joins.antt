@@ -3,21 +3,18 @@
 --     Along           a turn of the loop: what is left to join comes to the whole
 --     along-start, along-went, along-next, along-end
 -- Assumes nothing.
-use Prim.Native.Nat.{ℕ, suc, _+_, _-_, _*_, _/_, _≤_, _<_}
+use Prim.Native.Nat.{ℕ, _+_, _-_, _≤_, _<_}
 use native.Mathlib.Omega.{arith}
 use mathlib.Core.Path.{_≡_, refl, sym, ap, ap₂, _∙_, subst}
 use mathlib.Core.Bool.{Bool, true, false, _&&_}
-use mathlib.Core.List.{List, [], _∷_, _++_}
-use lib.ListN.{length}
-use lib.Dec.{eqb, ltb}
+use mathlib.Core.List.{List, [], _∷_}
 use borrow.Author.Tests.{ltb-true, lt-ltb}
 use Rattle.table.specs.Pick.{pick}
-use Rattle.table.specs.Node.{word}
 use Rattle.table.specs.declared.NodeNo.{NodeNo}
 use Rattle.table.proofs.Tests.{and-true}
 use Rattle.build.specs.declared.Counts.{Counts}
 use Rattle.build.specs.declared.Made.{Made}
-use Rattle.build.specs.declared.Made.the-variants.{Node, Refused}
+use Rattle.build.specs.declared.Made.the-variants.{Node}
 use Rattle.build.specs.Sheet.{Sheet, Built, counted, older, add}
 use Rattle.build.specs.Parts.{isNil, append, joined}
 use Rattle.build.specs.Solid.{solid}

@@ -1,9 +1,9 @@
 -- One node, or an older one: what is asked, what is answered and what is left come to the definition.
 -- Assumes nothing.
-use Prim.Native.Nat.{ℕ, _+_, _*_, _/_, _≤_, _<_}
+use Prim.Native.Nat.{ℕ, _+_, _*_, _<_}
 use native.Mathlib.Omega.{arith}
 use native.Mathlib.Nat.{add-zero}
-use mathlib.Core.Path.{_≡_, refl, sym, ap, _∙_}
+use mathlib.Core.Path.{_≡_, refl, sym, _∙_}
 use mathlib.Core.Bool.{Bool, true}
 use mathlib.Core.List.{List, [], _∷_, _++_}
 use lib.ListN.{length, take}
@@ -13,7 +13,7 @@ use Rattle.build.specs.declared.Why.{Why}
 use Rattle.build.specs.declared.Made.{Made}
 use Rattle.build.specs.declared.Made.the-variants.{Node, Refused}
 use Rattle.build.specs.declared.Asked.the-variants.{Granted, Denied}
-use Rattle.build.specs.Sheet.{Sheet, Built, countsOf, counted, over, older, add}
+use Rattle.build.specs.Sheet.{countsOf, counted, over, older, add}
 use Rattle.build.specs.Outcome.{asked, outcome, added, made}
 use Rattle.build.proofs.Room.{Allowed, allowed}
 use Rattle.build.proofs.Stand.{over-front, made-granted, made-denied}

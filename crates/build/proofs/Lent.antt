@@ -1,14 +1,14 @@
 -- Node n of a valid table is laid out by lending the table up to n: that table is accepted, and its root is node n.
 -- Assumes nothing.
-use Prim.Native.Nat.{ℕ, suc, _+_, _-_, _*_, _/_, _%_, _≤_, _<_}
+use Prim.Native.Nat.{ℕ, suc, _+_, _*_, _≤_, _<_}
 use native.Mathlib.Omega.{arith}
-use mathlib.Core.Path.{_≡_, refl, sym, ap, _∙_}
+use mathlib.Core.Path.{_≡_, sym, ap, _∙_}
 use mathlib.Core.List.{List}
 use lib.ListN.{length, take}
 use lib.Seq.{length-take-le, take-take}
 use Rattle.table.specs.Node.{word}
 use Rattle.table.specs.Fault.{Fault, faultAt, none, check}
-use Rattle.table.specs.Accepted.{NodeRight, Accepted}
+use Rattle.table.specs.Accepted.{NodeRight}
 use Rattle.table.specs.Valid as table-valid
 use Rattle.table.specs.Unfold.{root, tree}
 use Rattle.table.specs.Document.{doc}

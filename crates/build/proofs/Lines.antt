@@ -1,12 +1,11 @@
 -- FlatAlt of a Hardline and one node more, part by part: `line` with a blank, `line_` with Nil. Assumes nothing.
-use Prim.Native.Nat.{ℕ, _+_, _*_, _/_, _≤_, _<_}
+use Prim.Native.Nat.{ℕ, _+_, _/_, _≤_}
 use native.Mathlib.Omega.{arith}
 use native.Mathlib.Nat.{add-zero}
 use mathlib.Core.Path.{_≡_, refl, sym, ap, _∙_}
-use mathlib.Core.Bool.{Bool, true, _&&_}
+use mathlib.Core.Bool.{true, _&&_}
 use mathlib.Core.List.{List, [], _∷_}
 use lib.ListN.{length}
-use lib.Dec.{ltb}
 use borrow.Author.Tests.{lt-ltb}
 use Rattle.table.specs.declared.NodeNo.{NodeNo}
 use Rattle.build.specs.declared.Counts.{Counts}
@@ -16,7 +15,7 @@ use Rattle.build.specs.declared.Made.the-variants.{Node, Refused}
 use Rattle.build.specs.declared.Asked.the-variants.{Granted, Denied}
 use Rattle.build.specs.Sheet.{Sheet, Built, countsOf, counted}
 use Rattle.build.specs.Parts.{nil, text, space, hardline, flatAlt}
-use Rattle.build.specs.Outcome.{asked, outcome, made}
+use Rattle.build.specs.Outcome.{asked, outcome}
 use Rattle.build.specs.Constructors.{has, plainMade, hardlineMade, flatAltMade}
 use Rattle.build.proofs.Grow.{Grown, same, then, add-grown, text-grown}
 use Rattle.build.proofs.Stand.{Went, taken, refuse, Begun, begin, step, finish}

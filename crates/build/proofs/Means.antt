@@ -3,26 +3,23 @@
 --     nil-makes .. text-makes        one node; each asks that its operands are there and its words are right
 --     line-makes .. intersperse-makes   composed
 -- Assumes nothing.
-use Prim.Native.Nat.{ℕ, suc, _+_, _*_, _≤_, _<_}
+use Prim.Native.Nat.{ℕ, _≤_, _<_}
 use native.Mathlib.Omega.{arith}
-use mathlib.Core.Path.{_≡_, refl, sym, ap, ap₂, _∙_, subst}
-use mathlib.Core.Bool.{Bool, true, false, _&&_, _||_}
-use mathlib.Core.List.{List, [], _∷_, _++_, map}
-use lib.ListN.{length, take, drop, replicate, length-append}
-use lib.Seq.{take-length, drop-append-seam}
-use lib.Dec.{eqb, ltb, leb}
+use mathlib.Core.Path.{_≡_, refl, ap, ap₂, _∙_}
+use mathlib.Core.Bool.{Bool, true, false, _||_}
+use lib.Dec.{eqb}
 use borrow.Author.Tests.{lt-ltb, le-leb}
 use Rattle.table.specs.Pick.{pick}
 use Rattle.table.specs.Kinds.{kinds, kindAt}
 use Rattle.table.specs.Node.{wayOf}
-use Rattle.table.specs.Fault.{columnsRight, faultOf, faultAt}
+use Rattle.table.specs.Fault.{faultOf}
 use Rattle.table.specs.Unfold.{tree}
 use Rattle.table.specs.Document.{Doc, doc, nil, append, group, flatAlt, nest, hardline, text, annotated, union, align, fail}
-use Rattle.build.specs.Sheet.{Sheet, Built, older, add, write}
+use Rattle.build.specs.Sheet.{Sheet, Built, older, add}
 use Rattle.build.specs.Parts as parts
-use Rattle.build.specs.Documents.{isNilDoc, staysDoc, appendDoc, groupDoc, nestDoc, textDoc, spaceDoc, lineDoc, line₀Doc, softlineDoc, softline₀Doc, hangDoc, indentDoc, encloseDoc, joinedDoc, concatDoc, separatedDoc, intersperseDoc}
-use Rattle.build.proofs.Grow.{Whole, Grown, same, then, whole-grown, more-nodes, add-grown, write-grown}
-use Rattle.build.proofs.Clean.{Clean, docOf, clean-old, old-doc, clean-add, new-doc}
+use Rattle.build.specs.Documents.{appendDoc, groupDoc, nestDoc}
+use Rattle.build.proofs.Grow.{Grown, same, then, more-nodes, add-grown}
+use Rattle.build.proofs.Clean.{Clean, docOf, old-doc, clean-add, new-doc}
 use Rattle.build.proofs.Says.{nil-is, stays-is}
 
 pub record Makes (s : Sheet) (b : Built) (d : Doc) : Type 0 where

@@ -3,34 +3,33 @@
 --     nil-promise .. intersperse-promise     of each
 --     lent           node n of a valid table is lent with the table up to n, and accepted
 -- Assumes nothing.
-use Prim.Native.Nat.{ℕ, suc, _+_, _*_, _/_, _%_, _≤_, _<_}
+use Prim.Native.Nat.{ℕ, _≤_, _<_}
 use native.Mathlib.Omega.{arith}
 use mathlib.Core.Path.{_≡_, refl, sym, ap, _∙_, subst}
-use mathlib.Core.Bool.{Bool, true, false, _&&_}
+use mathlib.Core.Bool.{Bool, true, _&&_}
 use mathlib.Core.List.{List, [], _∷_, map}
-use lib.ListN.{length, take}
-use lib.Dec.{ltb, leb}
+use lib.ListN.{length}
+use lib.Dec.{leb}
 use borrow.Author.Tests.{ltb-true, leb-true}
-use Rattle.table.specs.Fault.{Fault, firstFault, none, columnsRight, check}
+use Rattle.table.specs.Fault.{Fault, firstFault, none, columnsRight}
 use Rattle.table.specs.Document.{Doc, nil, flatAlt, hardline, annotated, union, align, fail}
 use Rattle.table.specs.declared.NodeNo.{NodeNo}
 use Rattle.table.proofs.Tests.{and-true}
 use Rattle.table.proofs.Accept.{clean-of}
 use Rattle.build.specs.declared.Counts.{Counts}
-use Rattle.build.specs.declared.Made.{Made}
-use Rattle.build.specs.declared.Made.the-variants.{Node, Refused}
+use Rattle.build.specs.declared.Made.the-variants.{Node}
 use Rattle.build.specs.declared.Asked.{Asked}
 use Rattle.build.specs.declared.Asked.the-variants.{Granted, Denied}
 use Rattle.build.specs.Sheet.{Sheet, Built, counted}
-use Rattle.build.specs.Outcome.{asked, Outcome, settled, added, made}
+use Rattle.build.specs.Outcome.{asked, settled, made}
 use Rattle.build.specs.Constructors.{has, hasAll, nestRight, nilMade, appendMade, groupMade, flatAltMade, nestMade, hardlineMade, textMade, annotateMade, unionMade, alignMade, failMade, spaceMade, lineMade, line₀Made, softlineMade, softline₀Made, hangMade, indentMade, encloseMade, concatMade, intersperseMade}
 use Rattle.build.specs.Documents.{appendDoc, groupDoc, nestDoc, textDoc, spaceDoc, lineDoc, line₀Doc, softlineDoc, softline₀Doc, hangDoc, indentDoc, encloseDoc, concatDoc, intersperseDoc}
-use Rattle.build.specs.Promise.{Valid, docAt, Builds, Promise}
-use Rattle.build.proofs.Grow.{Whole, more-nodes, more-bytes}
-use Rattle.build.proofs.Room.{Passed, passed, room-of}
+use Rattle.build.specs.Promise.{docAt, Promise}
+use Rattle.build.proofs.Grow.{more-nodes, more-bytes}
+use Rattle.build.proofs.Room.{passed, room-of}
 use Rattle.build.proofs.Stand.{stands-counted, start, taken, part}
 use Rattle.build.proofs.Clean.{Clean, docOf, clean-none}
-use Rattle.build.proofs.Joins.{Below, below-of}
+use Rattle.build.proofs.Joins.{below-of}
 use Rattle.build.proofs.Means.{Makes, still, nil-makes, hardline-makes, fail-makes, flatAlt-makes, union-makes, align-makes, annotate-makes, group-makes, nest-makes, append-makes}
 use Rattle.build.proofs.Compose.{text-makes, space-makes, line-makes, line₀-makes, softline-makes, softline₀-makes, hang-makes, indent-makes, enclose-makes, concat-makes, intersperse-makes}
 

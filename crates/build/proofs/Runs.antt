@@ -3,16 +3,15 @@
 --     count-next, count-skip, count-end   a count of elements, the same way
 --     word-out, words-put            a word that is not counted; four words put at the end of the counted ones
 -- Assumes nothing.
-use Prim.Native.Nat.{ℕ, zero, suc, _+_, _*_, _≤_, _<_}
+use Prim.Native.Nat.{ℕ, suc, _+_, _≤_, _<_}
 use native.Mathlib.Omega.{arith}
 use native.Mathlib.Numerals.{add-one, add-two, add-three}
 use mathlib.Core.Path.{_≡_, refl, sym, ap, _∙_}
 use mathlib.Core.Bool.{Bool, true, false, _&&_}
 use mathlib.Core.List.{List, [], _∷_, _++_}
 use lib.ListN.{length, getD, take, drop, set, length-append, length-take, length-drop, drop-of-length-le, List·getD-eq-default}
-use lib.Seq.{drop-cons, sets-eq, length-take-le}
+use lib.Seq.{drop-cons, sets-eq}
 use lib.Dec.{eqb}
-use Rattle.table.specs.Pick.{pick}
 use Rattle.table.specs.Node.{word}
 use Rattle.build.specs.Sheet.{over}
 use Rattle.build.specs.Solid.{solid}

@@ -1,5 +1,5 @@
 -- What a node's kind word says of its document: whether it is a Nil, and whether Group gives it back. Assumes nothing.
-use Prim.Native.Nat.{ℕ, zero, suc, _+_, _≤_, _<_}
+use Prim.Native.Nat.{ℕ, zero, suc, _+_, _<_}
 use native.Mathlib.Omega.{arith}
 use mathlib.Core.Path.{_≡_, refl, sym, ap, _∙_}
 use mathlib.Core.Bool.{Bool, true, false, _&&_, _||_}
@@ -12,7 +12,7 @@ use Rattle.table.specs.Utf8.{ascii}
 use Rattle.table.specs.Fault.{faultAt}
 use Rattle.table.specs.Valid.{Sound}
 use Rattle.table.specs.Unfold.{Tree, treeOf, tree}
-use Rattle.table.specs.Document.{Doc, doc}
+use Rattle.table.specs.Document.{doc}
 use Rattle.table.proofs.Accept.{right-of}
 use Rattle.table.proofs.Unfolded.{tree-node}
 use Rattle.build.specs.Sheet.{Sheet}

@@ -1,11 +1,10 @@
 -- A line and its group, part by part: `softline` with a blank, `softline_` with Nil. Assumes nothing.
-use Prim.Native.Nat.{ℕ, _+_, _*_, _/_, _≤_, _<_}
+use Prim.Native.Nat.{ℕ, _+_, _/_, _≤_}
 use native.Mathlib.Omega.{arith}
-use mathlib.Core.Path.{_≡_, refl, sym, ap, _∙_}
-use mathlib.Core.Bool.{Bool, true, false}
+use mathlib.Core.Path.{_≡_, refl, ap, _∙_}
+use mathlib.Core.Bool.{true, false}
 use mathlib.Core.List.{List, [], _∷_}
 use lib.ListN.{length}
-use lib.Dec.{ltb}
 use borrow.Author.Tests.{lt-ltb}
 use Rattle.table.specs.Node.{word}
 use Rattle.table.specs.declared.NodeNo.{NodeNo}
@@ -16,7 +15,7 @@ use Rattle.build.specs.declared.Made.the-variants.{Node, Refused}
 use Rattle.build.specs.declared.Asked.the-variants.{Granted, Denied}
 use Rattle.build.specs.Sheet.{Sheet, Built, countsOf, counted, add}
 use Rattle.build.specs.Parts.{hardline, stays, group}
-use Rattle.build.specs.Outcome.{asked, outcome, made}
+use Rattle.build.specs.Outcome.{asked, outcome}
 use Rattle.build.specs.Constructors.{has, plainMade, groupMade}
 use Rattle.build.proofs.Grow.{Whole, Grown, same, then, whole-grown, add-grown, group-grown}
 use Rattle.build.proofs.Words.{new-word}

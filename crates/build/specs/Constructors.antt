@@ -1,6 +1,6 @@
 -- What each constructor answers and leaves, for any counts and any lent table and text.
 use Prim.Native.Nat.{ℕ}
-use mathlib.Core.Bool.{Bool, true, false, _&&_}
+use mathlib.Core.Bool.{Bool, true, _&&_}
 use mathlib.Core.List.{List, [], _∷_}
 use lib.Dec.{ltb, leb}
 use Rattle.table.specs.Fault.{columnsRight}

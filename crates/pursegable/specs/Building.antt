@@ -2,7 +2,7 @@
 -- Assumes nothing.
 use Prim.Native.Nat.{ℕ}
 use mathlib.Core.Bool.{Bool, not, _&&_, _||_}
-use mathlib.Core.List.{List, _∷_}
+use mathlib.Core.List.{List, [], _∷_}
 use lib.Dec.{eqb, leb}
 use lib.ListN.{length, getD, drop}
 use Rattle.table.specs.Pick.{pick}
@@ -12,6 +12,7 @@ use Rattle.build.specs.declared.Made.the-variants.{Node, Refused}
 use Rattle.build.specs.Sheet.{countsOf}
 use Rattle.build.specs.Outcome.{Outcome, number}
 use Rattle.build.specs.Constructors as c
+use Rattle.block.specs.declared.Block.{Block}
 
 -- the builder's words: nodes in use, bytes in use, the node made
 pub record Left : Type 0 where
@@ -80,3 +81,13 @@ anyMade what a b d s table text = pick (isLeaf what) (leafMade what s table text
 unfoldable pub makes : ℕ → ℕ → ℕ → ℕ → List ℕ → List ℕ → List ℕ → Left
 makes what a b d table text counts =
     pick (leb 3 (length counts) && not (known what)) (left 2 table text counts) (built (anyMade what a b d) table text counts)
+
+-- ---- block layouts
+
+abbrev pub blockFrom : ℕ → ℕ → ℕ → Block
+blockFrom body amount way = record { body = record { 0 = body }; amount = record { 0 = amount }; way = way }
+
+-- a byte that is not 0 is a flag set
+unfoldable pub flagsOf : List ℕ → List Bool
+flagsOf [] = []
+flagsOf (b ∷ bs) = not (eqb b 0) ∷ flagsOf bs

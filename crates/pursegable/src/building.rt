@@ -14,7 +14,7 @@ ghost use Rattle.build.specs.Constructors.{textMade, concatMade, intersperseMad
 ghost use Rattle.pursegable.specs.Building.{left, answerOf, countsAfter, built, leafMade, innerMade, isLeaf, known, makes};
 
 // The words that the builder's counts take.
-const COUNTS_WORDS: usize = 3;
+pub const COUNTS_WORDS: usize = 3;
 
 // Document 01's number for a refusal.
 fn number(why: Why) -> u32
@@ -30,7 +30,7 @@ fn number(why: Why) -> u32
     }
 }
 
-fn counts_of(counts: &[u32]) -> Counts
+pub fn counts_of(counts: &[u32]) -> Counts
     requires { ⌜ 3 ≤ length (now counts) ⌝ }
     ensures { λ r. ⌜ r ≡ countsOf (getD (now (counts .entry)) 0 0) (getD (now (counts .entry)) 1 0) ⌝ }
 {
@@ -41,7 +41,7 @@ fn counts_of(counts: &[u32]) -> Counts
 }
 
 // The counts and the node are put back, or the refusal's number is given.
-fn settle(made: Made, counts: &mut [u32]) -> u32
+pub fn settle(made: Made, counts: &mut [u32]) -> u32
     requires { ⌜ 3 ≤ length (now counts) ⌝ }
     ensures { λ r. ⌜ (r ≡ answerOf made) × (now (counts .exit) ≡ countsAfter made (now (counts .entry))) ⌝ }
 {

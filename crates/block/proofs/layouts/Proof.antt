@@ -1,6 +1,6 @@
 -- `layouts`, part by part.
 use borrow.Author.Needs.{needs}
-use mathlib.Core.Path.{_≡_, refl, sym, ap, _∙_}
+use mathlib.Core.Path.{_∙_}
 use native.Mathlib.Omega.{arith}
 use Rattle.block.proofs.Starts.{start-stop₁, start-stop₂, start-stop₃, start-asks₄, start-stop₄, start-asks₅, start-last}
 use Rattle.block.proofs.layouts.Statement.{statement}

@@ -1,5 +1,4 @@
 -- `least`: nothing, or three.
-use borrow.Author.Needs.{needs}
 use borrow.Author.Tests.{eq-eqb, ne-eqb}
 use Rattle.block.proofs.least.Statement.{statement}
 use Rattle.block.proofs.least.Tie as tie

@@ -1,6 +1,6 @@
 -- `operands`: all of them are present.
 use borrow.Author.Needs.{needs}
-use mathlib.Core.Path.{_≡_, refl, sym, ap, _∙_}
+use mathlib.Core.Path.{refl}
 use Rattle.block.proofs.operands.Statement.{statement}
 use Rattle.block.proofs.operands.Tie as tie
 

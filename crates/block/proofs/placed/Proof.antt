@@ -1,9 +1,6 @@
 -- `placed`: built on a table of its own, then laid over the lent one.
 use borrow.Author.Needs.{needs}
-use mathlib.Core.Path.{_≡_, refl, sym, ap, _∙_}
 use native.Mathlib.Omega.{arith}
-use Prim.Native.Nat.{ℕ, _+_, _-_, _*_, _≤_, _<_}
-use lib.ListN.{length}
 use Rattle.block.proofs.Places.{own-ready, placed-stop, placed-short, placed-copies, placed-last}
 use Rattle.block.proofs.placed.Statement.{statement}
 use Rattle.block.proofs.placed.Tie as tie

@@ -1,13 +1,12 @@
 -- `unions`: one alternative fewer is left each turn.
 use borrow.Author.Needs.{needs}
-use mathlib.Core.Path.{_≡_, refl, sym, ap, _∙_}
+use mathlib.Core.Path.{refl, _∙_}
 use native.Mathlib.Omega.{arith}
-use Prim.Native.Nat.{ℕ, _+_, _-_, _*_, _≤_, _<_}
+use Prim.Native.Nat.{_-_, _≤_}
 use lib.ListN.{length}
 use Rattle.build.specs.Sheet.{counted}
 use Rattle.build.proofs.Stand.{same-words}
 use Rattle.block.specs.Block.{unions}
-use Rattle.block.specs.Run.{Even}
 use Rattle.block.proofs.Loops.{Left, left-turn, left-zero, alternative-turn, left-start, left-asks, left-stop₁, left-stop₂, left-next, left-end}
 use Rattle.block.proofs.unions.Statement.{statement}
 use Rattle.block.proofs.unions.Tie as tie

@@ -1,6 +1,6 @@
 -- `within`: asked for, then the body or all layouts.
 use borrow.Author.Needs.{needs}
-use mathlib.Core.Path.{_≡_, refl, sym, ap, _∙_}
+use mathlib.Core.Path.{sym, _∙_}
 use Rattle.block.proofs.Asking.{within-refused, within-body, within-asks, within-last}
 use Rattle.block.proofs.within.Statement.{statement}
 use Rattle.block.proofs.within.Tie as tie

@@ -1,5 +1,4 @@
 -- `nest_right`: amount and way in range.
-use borrow.Author.Needs.{needs}
 use borrow.Author.Tests.{le-leb, lt-leb}
 use Rattle.build.proofs.nest_right.Statement.{statement}
 use Rattle.build.proofs.nest_right.Tie as tie

@@ -2,7 +2,7 @@
 use borrow.Author.Needs.{needs}
 use mathlib.Core.Path.{_≡_}
 use Prim.Native.Nat.{_-_}
-use lib.ListN.{length, length-set}
+use lib.ListN.{length}
 use Rattle.lines.proofs.narrow.Statement.{statement}
 use Rattle.lines.proofs.narrow.Tie as tie
 

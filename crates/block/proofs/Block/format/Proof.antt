@@ -1,6 +1,6 @@
 -- `format`: at most 8 affixes, each with a prefix, a suffix and a flag.
 use borrow.Author.Needs.{needs}
-use mathlib.Core.Path.{_≡_, refl, sym, ap, _∙_}
+use mathlib.Core.Path.{refl, sym, _∙_}
 use Rattle.block.specs.Block.{formatMade}
 use Rattle.block.proofs.Block.format.Statement.{statement}
 use Rattle.block.proofs.Block.format.Tie as tie

@@ -1,13 +1,12 @@
 -- `concat`: the loop joins one more each turn.
 use borrow.Author.Needs.{needs}
-use mathlib.Core.Path.{_≡_, refl, sym, ap, _∙_}
+use mathlib.Core.Path.{sym, _∙_}
 use native.Mathlib.Omega.{arith}
-use Prim.Native.Nat.{ℕ, _+_, _-_, _*_, _≤_, _<_}
-use lib.ListN.{length, drop, getD}
-use mathlib.Core.List.{List, []}
+use Prim.Native.Nat.{_-_, _≤_}
+use lib.ListN.{length, drop}
 use Rattle.build.specs.Parts.{concat}
 use Rattle.build.proofs.Stand.{same-words, never}
-use Rattle.build.proofs.Joins.{Along, along-end}
+use Rattle.build.proofs.Joins.{Along}
 use Rattle.build.proofs.Concats.{concat-none, concat-refused, concat-begun, concat-start, concat-below, concat-went, concat-next, concat-end}
 use Rattle.build.proofs.Counts.concat.Statement.{statement}
 use Rattle.build.proofs.Counts.concat.Tie as tie

@@ -1,6 +1,6 @@
 -- `hang`, part by part.
 use borrow.Author.Needs.{needs}
-use mathlib.Core.Path.{_≡_, refl, sym, ap, _∙_}
+use mathlib.Core.Path.{sym, _∙_}
 use Rattle.build.specs.Sheet.{counted}
 use Rattle.build.proofs.Stand.{never}
 use Rattle.build.proofs.Hangs.{hang-refused, hang-first, hang-last}

@@ -1,6 +1,5 @@
 -- `hang_adds`: Align, and Nest where it does not give the node back.
 use borrow.Author.Needs.{needs}
-use mathlib.Core.Path.{_≡_, refl, sym, ap, _∙_}
 use borrow.Author.Tests.{eq-eqb, ne-eqb}
 use Rattle.build.specs.Solid.{nestAdds}
 use Rattle.build.proofs.Counts.hang_adds.Statement.{statement}

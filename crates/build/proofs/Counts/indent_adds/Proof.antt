@@ -1,6 +1,5 @@
 -- `indent_adds`: by the amount and the kind.
 use borrow.Author.Needs.{needs}
-use mathlib.Core.Path.{_≡_, refl, sym, ap, _∙_}
 use borrow.Author.Tests.{eq-eqb, ne-eqb}
 use Rattle.build.specs.Solid.{indentAdds}
 use Rattle.build.proofs.Counts.indent_adds.Statement.{statement}

@@ -1,13 +1,12 @@
 -- `intersperse`: the loop joins a separator and one more each turn.
 use borrow.Author.Needs.{needs}
-use mathlib.Core.Path.{_≡_, refl, sym, ap, _∙_}
+use mathlib.Core.Path.{sym, _∙_}
 use native.Mathlib.Omega.{arith}
-use Prim.Native.Nat.{ℕ, _+_, _-_, _*_, _≤_, _<_}
-use lib.ListN.{length, drop, getD, take}
-use mathlib.Core.List.{List, []}
+use Prim.Native.Nat.{_-_, _*_, _≤_}
+use lib.ListN.{length, drop, take}
 use Rattle.build.specs.Parts.{separated, intersperse}
 use Rattle.build.proofs.Stand.{same-words, never}
-use Rattle.build.proofs.Joins.{Along, along-end}
+use Rattle.build.proofs.Joins.{Along}
 use Rattle.build.proofs.Separated.{solid-bound, intersperse-none, intersperse-refused, intersperse-begun, intersperse-start, intersperse-below, separator-went, node-went, node-next, intersperse-end}
 use Rattle.build.proofs.Counts.intersperse.Statement.{statement}
 use Rattle.build.proofs.Counts.intersperse.Tie as tie

@@ -1,6 +1,6 @@
 -- `line`, part by part.
 use borrow.Author.Needs.{needs}
-use mathlib.Core.Path.{_≡_, refl, sym, _∙_}
+use mathlib.Core.Path.{sym, _∙_}
 use Rattle.build.specs.Parts.{line}
 use Rattle.build.proofs.Stand.{never}
 use Rattle.build.proofs.Lines.{space-one, line-refused, line-first, line-second, line-last}

@@ -1,6 +1,6 @@
 -- `nest`: given back or wrapped.
 use borrow.Author.Needs.{needs}
-use mathlib.Core.Path.{_≡_, refl, sym, _∙_}
+use mathlib.Core.Path.{sym, _∙_}
 use mathlib.Core.Bool.{true}
 use Rattle.build.specs.Sheet.{counted, older, add}
 use Rattle.build.proofs.Stand.{made-same}

@@ -1,6 +1,6 @@
 -- `node`: one node more.
 use borrow.Author.Needs.{needs}
-use mathlib.Core.Path.{_≡_, refl, sym, ap, _∙_}
+use mathlib.Core.Path.{sym, _∙_}
 use Rattle.build.proofs.Leaf.{node-denied, node-room, node-granted}
 use Rattle.build.proofs.Counts.node.Statement.{statement}
 use Rattle.build.proofs.Counts.node.Tie as tie

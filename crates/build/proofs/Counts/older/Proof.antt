@@ -1,6 +1,6 @@
 -- `older`: nothing is added.
 use borrow.Author.Needs.{needs}
-use mathlib.Core.Path.{_≡_, refl, sym, ap, _∙_}
+use mathlib.Core.Path.{sym, _∙_}
 use Rattle.build.proofs.Leaf.{older-denied, older-granted}
 use Rattle.build.proofs.Counts.older.Statement.{statement}
 use Rattle.build.proofs.Counts.older.Tie as tie

@@ -1,6 +1,5 @@
 -- `separators`: all or none.
 use borrow.Author.Needs.{needs}
-use mathlib.Core.Path.{_≡_, refl, sym, ap, _∙_}
 use native.Mathlib.Omega.{arith}
 use Rattle.build.specs.Solid.{solid}
 use Rattle.build.proofs.Counts.separators.Statement.{statement}

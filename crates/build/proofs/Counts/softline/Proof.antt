@@ -1,6 +1,6 @@
 -- `softline`, part by part.
 use borrow.Author.Needs.{needs}
-use mathlib.Core.Path.{_≡_, refl, sym, ap, _∙_}
+use mathlib.Core.Path.{sym, _∙_}
 use Rattle.build.specs.Parts.{line, softline}
 use Rattle.build.proofs.Stand.{never}
 use Rattle.build.proofs.Lines.{space-one}

@@ -1,9 +1,9 @@
 -- `solid`: counts what is no Nil.
 use borrow.Author.Needs.{needs}
-use Prim.Native.Nat.{ℕ, _+_, _-_, _*_, _≤_, _<_}
+use Prim.Native.Nat.{_+_, _-_, _*_, _≤_}
 use native.Mathlib.Omega.{arith}
-use mathlib.Core.Path.{_≡_, refl, sym, ap, _∙_}
-use lib.ListN.{length, getD, take, drop}
+use mathlib.Core.Path.{_≡_, sym, _∙_}
+use lib.ListN.{length, take, drop}
 use Rattle.build.specs.Solid.{solid}
 use Rattle.build.proofs.Runs.{count-next, count-skip, count-end}
 use Rattle.build.proofs.Counts.solid.Statement.{statement}

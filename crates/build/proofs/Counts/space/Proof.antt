@@ -1,6 +1,5 @@
 -- `space`: a Text of one blank.
 use borrow.Author.Needs.{needs}
-use mathlib.Core.Path.{_≡_, refl, sym, ap, _∙_}
 use Rattle.table.specs.Utf8.{ascii}
 use Rattle.table.specs.Fault.{columnsRight}
 use Rattle.build.proofs.Counts.space.Statement.{statement}

@@ -1,9 +1,8 @@
 -- `word`: a word of a counted node.
 use borrow.Author.Needs.{needs}
-use Prim.Native.Nat.{ℕ, _+_, _-_, _*_, _≤_, _<_}
+use Prim.Native.Nat.{_+_, _*_}
 use native.Mathlib.Omega.{arith}
-use mathlib.Core.Path.{_≡_, refl, sym, ap, _∙_}
-use lib.ListN.{length, getD, take}
+use mathlib.Core.Path.{sym}
 use lib.Seq.{getD-take}
 use Rattle.build.proofs.Runs.{word-out, word-past}
 use Rattle.build.proofs.Counts.word.Statement.{statement}

@@ -1,0 +1,251 @@
+// An alternative and its parts, each a run on a table of its own: all of it, or a refusal for want of nodes (specs/Run.antt).
+ghost use mathlib.Core.Path.{_≡_};
+ghost use mathlib.Core.Bool.{true};
+ghost use Prim.Native.Nat.{_<_};
+ghost use lib.ListN.{length};
+ghost use Rattle.build.specs.Sheet.{counted};
+ghost use Rattle.build.specs.Constructors.{hasAll};
+ghost use Rattle.block.specs.Block.{list, allNil, bare, guarded, nested, head, core, wrap, wraps, tail, alternative};
+ghost use Rattle.block.specs.Run.{Ready, Shares, Bodied, Hand, Even, Ran};
+use crate::Block;
+use crate::Shared;
+use build::Counts;
+use build::Made;
+use table::NodeNo;
+
+// A list joined by itself; an empty one is the shared Nil.
+pub fn list(c: Counts, table: &mut [u32], text: &[u8], none: NodeNo, nodes: &[u32]) -> Made
+    requires { ⌜ Ready c (now table) (now text) × (none .0 < c .nodes) × (hasAll c (now nodes) ≡ true) ⌝ }
+    ensures { λ r. ⌜ Ran c (now (table .entry)) (now (text .entry)) (list (counted c (now (table .entry)) (now (text .entry))) (none .0) (now (nodes .entry))) r (now (table .exit)) ⌝ }
+{
+    if nodes.len() == 0 {
+        return Made::Node(c, none);
+    }
+    c.concat(table, text, nodes)
+}
+
+// Whether every one of the nodes is a Nil.
+pub fn all_nil(c: Counts, table: &[u32], text: &[u8], nodes: &[u32]) -> bool
+    ensures { λ r. ⌜ r ≡ allNil (counted c (now (table .entry)) (now (text .entry))) (now (nodes .entry)) ⌝ }
+{
+    let mut i = 0;
+    while i < nodes.len() {
+        if c.is_nil(table, NodeNo(nodes[i])) {
+            i += 1;
+            continue;
+        }
+        return false;
+    }
+    true
+}
+
+// Whether there is more than one before, and every prefix is a Nil.
+pub fn bare(c: Counts, table: &[u32], text: &[u8], before: &[u32]) -> bool
+    ensures { λ r. ⌜ r ≡ bare (counted c (now (table .entry)) (now (text .entry))) (now (before .entry)) ⌝ }
+{
+    1 < before.len() && all_nil(c, table, text, before)
+}
+
+// A node, joined to the guard if asked.
+pub fn guarded(
+    c: Counts,
+    table: &mut [u32],
+    text: &[u8],
+    shared: Shared,
+    n: NodeNo,
+    asked: bool,
+) -> Made
+    requires { ⌜ Ready c (now table) (now text) × Shares c shared × (n .0 < c .nodes) ⌝ }
+    ensures { λ r. ⌜ Ran c (now (table .entry)) (now (text .entry)) (guarded (counted c (now (table .entry)) (now (text .entry))) shared (n .0) asked) r (now (table .exit)) ⌝ }
+{
+    let guard = shared.guard;
+    if asked {
+        return c.append(table, text, n, guard);
+    }
+    Made::Node(c, n)
+}
+
+// A node, nested by the amount if flagged.
+pub fn nested(
+    c: Counts,
+    table: &mut [u32],
+    text: &[u8],
+    block: Block,
+    n: NodeNo,
+    flag: bool,
+) -> Made
+    requires { ⌜ Ready c (now table) (now text) × Bodied c block × (n .0 < c .nodes) ⌝ }
+    ensures { λ r. ⌜ Ran c (now (table .entry)) (now (text .entry)) (nested (counted c (now (table .entry)) (now (text .entry))) block (n .0) flag) r (now (table .exit)) ⌝ }
+{
+    let amount = block.amount;
+    if flag {
+        return c.nest(table, text, n, amount, block.way);
+    }
+    Made::Node(c, n)
+}
+
+// A group of before's prefixes, then the guard if there is more than one.
+pub fn head(c: Counts, table: &mut [u32], text: &[u8], shared: Shared, before: &[u32]) -> Made
+    requires { ⌜ Ready c (now table) (now text) × Shares c shared × (hasAll c (now before) ≡ true) ⌝ }
+    ensures { λ r. ⌜ Ran c (now (table .entry)) (now (text .entry)) (head (counted c (now (table .entry)) (now (text .entry))) shared (now (before .entry))) r (now (table .exit)) ⌝ }
+{
+    let none = shared.none;
+    let first = list(c, table, text, none, before);
+    let Made::Node(c, n) = first else {
+        return first;
+    };
+    let second = guarded(c, table, text, shared, n, 1 < before.len());
+    let Made::Node(c, n) = second else {
+        return second;
+    };
+    c.group(table, text, n)
+}
+
+// Body, joined to the guard if asked, nested, then after's suffixes.
+pub fn core(
+    c: Counts,
+    table: &mut [u32],
+    text: &[u8],
+    block: Block,
+    shared: Shared,
+    asked: bool,
+    after: &[u32],
+) -> Made
+    requires { ⌜ Ready c (now table) (now text) × Bodied c block × Shares c shared × (hasAll c (now after) ≡ true) ⌝ }
+    ensures { λ r. ⌜ Ran c (now (table .entry)) (now (text .entry)) (core (counted c (now (table .entry)) (now (text .entry))) block shared asked (now (after .entry))) r (now (table .exit)) ⌝ }
+{
+    let body = block.body;
+    let none = shared.none;
+    let first = guarded(c, table, text, shared, body, asked);
+    let Made::Node(c, n) = first else {
+        return first;
+    };
+    let second = nested(c, table, text, block, n, true);
+    let Made::Node(c, n) = second else {
+        return second;
+    };
+    let third = list(c, table, text, none, after);
+    let Made::Node(c, suffixes) = third else {
+        return third;
+    };
+    c.append(table, text, n, suffixes)
+}
+
+// A prefix joined before what stands, nested if flagged, grouped.
+pub fn wrap(
+    c: Counts,
+    table: &mut [u32],
+    text: &[u8],
+    block: Block,
+    n: NodeNo,
+    prefix: NodeNo,
+    flag: bool,
+) -> Made
+    requires { ⌜ Ready c (now table) (now text) × Bodied c block × (n .0 < c .nodes) × (prefix .0 < c .nodes) ⌝ }
+    ensures { λ r. ⌜ Ran c (now (table .entry)) (now (text .entry)) (wrap (counted c (now (table .entry)) (now (text .entry))) block (n .0) (prefix .0) flag) r (now (table .exit)) ⌝ }
+{
+    let first = c.append(table, text, prefix, n);
+    let Made::Node(c, n) = first else {
+        return first;
+    };
+    let second = nested(c, table, text, block, n, flag);
+    let Made::Node(c, n) = second else {
+        return second;
+    };
+    c.group(table, text, n)
+}
+
+// From the last of after to the first.
+pub fn wraps(
+    c: Counts,
+    table: &mut [u32],
+    text: &[u8],
+    block: Block,
+    n: NodeNo,
+    prefixes: &[u32],
+    nests: &[bool],
+) -> Made
+    requires { ⌜ Ready c (now table) (now text) × Bodied c block × (n .0 < c .nodes) × (hasAll c (now prefixes) ≡ true) × (length (now nests) ≡ length (now prefixes)) ⌝ }
+    ensures { λ r. ⌜ Ran c (now (table .entry)) (now (text .entry)) (wraps (counted c (now (table .entry)) (now (text .entry))) block (n .0) (now (prefixes .entry)) (now (nests .entry))) r (now (table .exit)) ⌝ }
+{
+    let mut c = c;
+    let mut n = n;
+    let mut i = prefixes.len();
+    while 0 < i {
+        i -= 1;
+        let made = wrap(c, table, text, block, n, NodeNo(prefixes[i]), nests[i]);
+        let Made::Node(next, m) = made else {
+            return made;
+        };
+        c = next;
+        n = m;
+    }
+    Made::Node(c, n)
+}
+
+// A group of Core and before's suffixes.
+pub fn tail(
+    c: Counts,
+    table: &mut [u32],
+    text: &[u8],
+    shared: Shared,
+    n: NodeNo,
+    before: &[u32],
+) -> Made
+    requires { ⌜ Ready c (now table) (now text) × Shares c shared × (n .0 < c .nodes) × (hasAll c (now before) ≡ true) ⌝ }
+    ensures { λ r. ⌜ Ran c (now (table .entry)) (now (text .entry)) (tail (counted c (now (table .entry)) (now (text .entry))) shared (n .0) (now (before .entry))) r (now (table .exit)) ⌝ }
+{
+    let none = shared.none;
+    let first = list(c, table, text, none, before);
+    let Made::Node(c, suffixes) = first else {
+        return first;
+    };
+    let second = c.append(table, text, n, suffixes);
+    let Made::Node(c, n) = second else {
+        return second;
+    };
+    c.group(table, text, n)
+}
+
+// Head joined to Tail, where "before" is the first `split` affixes.
+pub fn alternative(
+    c: Counts,
+    table: &mut [u32],
+    text: &[u8],
+    block: Block,
+    shared: Shared,
+    prefixes: &[u32],
+    suffixes: &[u32],
+    nests: &[bool],
+    split: usize,
+) -> Made
+    requires { ⌜ Ready c (now table) (now text) × Hand c block shared (now prefixes) (now suffixes) × Even split (now prefixes) (now suffixes) (now nests) ⌝ }
+    ensures { λ r. ⌜ Ran c (now (table .entry)) (now (text .entry)) (alternative (counted c (now (table .entry)) (now (text .entry))) block shared (now (prefixes .entry)) (now (suffixes .entry)) (now (nests .entry)) split) r (now (table .exit)) ⌝ }
+{
+    let first = head(c, table, text, shared, &prefixes[..split]);
+    let Made::Node(c, front) = first else {
+        return first;
+    };
+    let asked = bare(c, table, text, &prefixes[..split]);
+    let second = core(c, table, text, block, shared, asked, &suffixes[split..]);
+    let Made::Node(c, middle) = second else {
+        return second;
+    };
+    let third = wraps(
+        c,
+        table,
+        text,
+        block,
+        middle,
+        &prefixes[split..],
+        &nests[split..],
+    );
+    let Made::Node(c, wrapped) = third else {
+        return third;
+    };
+    let fourth = tail(c, table, text, shared, wrapped, &suffixes[..split]);
+    let Made::Node(c, back) = fourth else {
+        return fourth;
+    };
+    c.append(table, text, front, back)
+}
