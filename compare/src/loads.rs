@@ -18,8 +18,10 @@ pub struct Load {
 pub fn loads() -> Vec<Load> {
     let load = |name, table, width| Load { name, table, width, room: 16_384, slots: 256 };
     vec![
-        load("chest sheet, 60 rows", chest(60, false), 42),
-        load("the same, a mark on each row", chest(60, true), 42),
+        load("chest's test sheet, 60 rows", test_sheet(false), 42),
+        load("the same, a mark on each row", test_sheet(true), 42),
+        load("tool chest, 60 rows of groups", chest(60, false), 42),
+        load("the same, a mark on each", chest(60, true), 42),
         load("300 words", words(300), 42),
         load("nested lists", nested_lists(), 42),
         load("chain of groups", chain_of_groups(1000), 42),
@@ -57,11 +59,26 @@ impl Maker {
     }
 
     fn text(&mut self, text: &str) -> u32 {
-        self.make(Make::Text(text.as_bytes().to_vec(), text.len() as u32))
+        self.make(Make::Text(text.as_bytes().to_vec(), text.chars().count() as u32))
     }
 
     fn join(&mut self, nodes: &[u32]) -> u32 {
         self.make(Make::Concat(nodes.to_vec()))
+    }
+
+    /// A row and its remark, ending in a Hardline both ways.
+    fn remarked(&mut self, fixed: u32, remark: &str, between: u32, end: u32) -> u32 {
+        if remark.is_empty() {
+            return self.join(&[fixed, end]);
+        }
+        let beside = self.text(&format!("  {remark}"));
+        let beside = self.join(&[fixed, beside, end]);
+        let words: Vec<u32> = pieces(remark).iter().map(|piece| self.text(piece)).collect();
+        let filled = self.make(Make::Intersperse(words, between));
+        let below = self.make(Make::Append(end, filled));
+        let below = self.make(Make::Nest(below, 4, 0));
+        let below = self.join(&[fixed, below, end]);
+        self.make(Make::Union(beside, below))
     }
 
     fn done(self, root: u32) -> Table {
@@ -69,6 +86,20 @@ impl Maker {
         table.words.truncate(4 * root as usize + 4);
         table
     }
+}
+
+const SAMPLE: &str = include_str!("../../crates/chest/stdin");
+
+/// Words that stay together up to 12 columns.
+fn pieces(text: &str) -> Vec<String> {
+    let mut pieces: Vec<String> = Vec::new();
+    for word in text.split(' ') {
+        match pieces.last_mut() {
+            Some(last) if last.chars().count() < 12 => *last = format!("{last} {word}"),
+            _ => pieces.push(word.to_string()),
+        }
+    }
+    pieces
 }
 
 const THINGS: [&str; 12] = [
@@ -94,6 +125,25 @@ const REMARKS: [(&str, &str); 7] = [
     ("one missing", "ordered"),
     ("cracked", "do not use"),
 ];
+
+/// The main job's sample, three times: 60 rows as crate rows builds them. A row with a remark is a Union, the remark beside it or filled
+/// below it.
+fn test_sheet(marks: bool) -> Table {
+    let mut m = Maker::new();
+    let end = m.make(Make::Hardline);
+    let between = m.make(Make::Softline);
+    let mut sheet = m.make(Make::Nil);
+    for line in SAMPLE.lines().filter(|line| line.contains(';')).cycle().take(60) {
+        let fields: Vec<&str> = line.splitn(4, ';').collect();
+        let fixed = m.text(&format!("{:6}{:>4} g{:>6} mm", fields[0], fields[1], fields[2]));
+        let mut row = m.remarked(fixed, fields[3], between, end);
+        if marks {
+            row = m.make(Make::Annotate(row, 1));
+        }
+        sheet = m.make(Make::Append(sheet, row));
+    }
+    m.done(sheet)
+}
 
 /// A tool chest: each row a thing, how many, and a remark that goes on the row if it fits and below it if not.
 fn chest(rows: usize, marks: bool) -> Table {
