@@ -13,7 +13,8 @@
  *    0  done
  *    1  table empty, not a multiple of 4 words, or above 4,096 words; text or output above 65,536 bytes; events above
  *       4,096 records; work below 16,384 words; width above 65,535; step limit above 100,000,000; report below 5 words;
- *       constructors: counts below 3 words, or past the lent table or text; blocks: above 8 affixes
+ *       constructors: counts below 3 words, or past the lent table or text; blocks: above 8 affixes, or lists of
+ *       different lengths
  *    2  unknown kind, or an unused word not 0; constructors: unknown constructor
  *    3  a child not below its parent; nest words out of range (amount above 1,000, or a way above 1)
  *    4  a text's range leaves the text bytes
@@ -39,6 +40,7 @@ extern "C" {
 #define PURSEGABLE_REPORT_WORDS 5
 #define PURSEGABLE_WORK_WORDS 16384
 #define PURSEGABLE_COUNTS_WORDS 3
+#define PURSEGABLE_MOST_AFFIXES 8
 
 /* An event: the output byte before which it stands, 1 opens or 0 closes, and the label of the annotation. */
 typedef struct {
@@ -137,6 +139,19 @@ uint32_t pursegable_intersperse(const uint32_t *nodes, size_t nodes_len, uint32_
                                 uint32_t *table, size_t table_len,
                                 const uint8_t *text, size_t text_len,
                                 uint32_t *counts, size_t counts_len);
+
+/* The block layouts of a body between affixes: all prefixes on one line, else fewer of them, and at last only the first.
+ *
+ * The affixes come as three lists of one length: the prefix of each and its suffix, which are nodes, and a flag, a byte not 0
+ * if the affix is nested by the amount where its prefix is not on that line. The body is always nested by it; way 0 adds, 1
+ * subtracts. No affixes give the body and build nothing; body and amount are looked at all the same. */
+uint32_t pursegable_block(uint32_t body, uint32_t amount, uint32_t way,
+                          const uint32_t *prefixes, size_t prefixes_len,
+                          const uint32_t *suffixes, size_t suffixes_len,
+                          const uint8_t *nests, size_t nests_len,
+                          uint32_t *table, size_t table_len,
+                          const uint8_t *text, size_t text_len,
+                          uint32_t *counts, size_t counts_len);
 
 #ifdef __cplusplus
 }

@@ -8,6 +8,7 @@
 
 #define FILL 0xA5
 #define MOST_PARTS 9
+#define BLOCK_PARTS 5
 
 static int line_no;
 static unsigned long calls, checked;
@@ -183,30 +184,54 @@ static void lend_sheet(char **part)
     free(sizes);
 }
 
-static void make(char **part)
+static uint32_t made(char *what)
 {
-    uint32_t *w, *want, *table_was = malloc(table_len * 4 + 1), r;
-    uint8_t *b, *text_was = malloc(text_len + 1);
-    size_t n, want_len = words(part[1], &want);
-    memcpy(table_was, table, table_len * 4);
-    memcpy(text_was, text, text_len);
-    if (!strncmp(part[0], "make", 4)) {
-        n = words(part[0] + 4, &w);
+    uint32_t *w, r;
+    size_t n;
+    if (!strncmp(what, "make", 4)) {
+        words(what + 4, &w);
         r = pursegable_make(w[0], w[1], w[2], w[3], table, table_len, text, text_len, counts, counts_len);
-    } else if (!strncmp(part[0], "text", 4)) {
-        char *columns = strchr(part[0] + 5, ' ');
+    } else if (!strncmp(what, "text", 4)) {
+        uint8_t *b;
+        char *columns = strchr(what + 5, ' ');
         *columns = 0;
-        n = bytes(part[0] + 5, &b);
+        n = bytes(what + 5, &b);
         words(columns + 1, &w);
         r = pursegable_text(b, n, w[0], table, table_len, text, text_len, counts, counts_len);
         free(b);
-    } else if (!strncmp(part[0], "concat", 6)) {
-        n = words(part[0] + 6, &w);
+    } else if (!strncmp(what, "concat", 6)) {
+        n = words(what + 6, &w);
         r = pursegable_concat(w, n, table, table_len, text, text_len, counts, counts_len);
     } else {
-        n = words(part[0] + strlen("intersperse"), &w);
+        n = words(what + strlen("intersperse"), &w);
         r = pursegable_intersperse(w + 1, n - 1, w[0], table, table_len, text, text_len, counts, counts_len);
     }
+    free(w);
+    return r;
+}
+
+static uint32_t block_made(char **part)
+{
+    uint32_t *w, *prefixes, *suffixes, *flags;
+    words(part[0] + strlen("block"), &w);
+    size_t p = words(part[1], &prefixes), s = words(part[2], &suffixes), n = words(part[3], &flags);
+    uint8_t *nests = lend(n, 1);
+    for (size_t i = 0; i < n; i++)
+        nests[i] = (uint8_t)flags[i];
+    uint32_t r = pursegable_block(w[0], w[1], w[2], prefixes, p, suffixes, s, nests, n, table, table_len, text, text_len, counts, counts_len);
+    free(w), free(prefixes), free(suffixes), free(flags), free(nests);
+    return r;
+}
+
+/* A constructor's call; its answer and the counts afterwards are the line's last part. */
+static void construct(char **part, size_t n)
+{
+    uint32_t *want, *table_was = malloc(table_len * 4 + 1), r;
+    uint8_t *text_was = malloc(text_len + 1);
+    size_t want_len = words(part[n - 1], &want);
+    memcpy(table_was, table, table_len * 4);
+    memcpy(text_was, text, text_len);
+    r = n == BLOCK_PARTS ? block_made(part) : made(part[0]);
     calls++;
     equal("the answer", r, want[0]);
     equal("the length of the counts", counts_len, want_len - 1);
@@ -215,7 +240,7 @@ static void make(char **part)
         same("the table", table, table_was, table_len, 4);
         same("the text", text, text_was, text_len, 1);
     }
-    free(w), free(want), free(table_was), free(text_was);
+    free(want), free(table_was), free(text_was);
 }
 
 /* What was built, and the rest as it was lent. */
@@ -275,15 +300,15 @@ int main(int argc, char **argv)
             holds(part);
         } else if (!strncmp(line, "lay", 3) && n == 3) {
             lay(part);
-        } else if (n == 2) {
-            make(part);
+        } else if (n == 2 || (!strncmp(line, "block", 5) && n == BLOCK_PARTS)) {
+            construct(part, n);
         } else {
             fail("a line that can't be read", n);
         }
     }
     fclose(f);
     free(table), free(counts), free(text);
-    if (calls < 150) {
+    if (calls < 250) {
         printf("link.c: only %lu calls\n", calls);
         return 1;
     }

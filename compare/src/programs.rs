@@ -1,6 +1,6 @@
 //! Programs of constructor calls at random. An operand is the number of an earlier call, whose node or document it names.
 
-use crate::made::Lent;
+use crate::made::{Lent, Lists};
 use crate::make::{Affix, Make};
 use crate::tables::Random;
 
@@ -33,14 +33,22 @@ fn random_make(random: &mut Random, calls: usize) -> Make {
         24 => Make::Indent(a, random_amount(random)),
         25 => Make::Enclose(a, b, c),
         _ => {
-            let affixes = (0..random.below(4)).map(|_| Affix {
-                prefix: random.below(calls) as u32,
-                suffix: random.below(calls) as u32,
-                nest: random.one_in(2),
-            });
-            Make::Block(affixes.collect(), a, random_amount(random), random.below(2) as u32)
+            let count = if random.one_in(4) { random.below(9) } else { random.below(4) };
+            let affixes = random_affixes(random, calls, count);
+            Make::Block(affixes, a, random_amount(random), random.below(2) as u32)
         }
     }
+}
+
+/// So many affixes; some have one prefix for all, so that all may be a Nil.
+fn random_affixes(random: &mut Random, calls: usize, count: usize) -> Vec<Affix> {
+    let (alike, one) = (random.one_in(4), random.below(calls));
+    let affix = |_| Affix {
+        prefix: if alike { one } else { random.below(calls) } as u32,
+        suffix: random.below(calls) as u32,
+        nest: random.one_in(2),
+    };
+    (0..count).map(affix).collect()
 }
 
 fn random_amount(random: &mut Random) -> u32 {
@@ -83,7 +91,14 @@ pub fn wild_make(random: &mut Random, nodes: usize) -> Make {
         Make::Nest(a, amount, _) => Make::Nest(a, amount, random.below(3) as u32),
         Make::Hang(a, _, way) => Make::Hang(a, wrong, way),
         Make::Indent(a, _) => Make::Indent(a, wrong),
-        Make::Block(affixes, body, _, way) => Make::Block(affixes, body, wrong, way),
+        Make::Block(affixes, body, amount, way) => match random.below(3) {
+            0 => Make::Block(affixes, body, wrong, way),
+            1 => Make::Block(affixes, body, amount, *random.of(&[2, u32::MAX])),
+            _ => {
+                let more = 9 + random.below(4);
+                Make::Block(random_affixes(random, 2 * nodes, more), body, wrong, way)
+            }
+        },
         Make::Text(mut bytes, columns) => {
             if bytes.is_empty() || random.one_in(3) {
                 return Make::Text(bytes, *random.of(&[0, 1, columns.wrapping_add(1), u32::MAX]));
@@ -94,6 +109,20 @@ pub fn wild_make(random: &mut Random, nodes: usize) -> Make {
         }
         other => other,
     }
+}
+
+/// A block whose three lists are not of one length, each often longer than there may be affixes. Nothing else need be right.
+pub fn uneven_lists(random: &mut Random, nodes: usize) -> Lists {
+    let count = random.below(10);
+    let affixes = random_affixes(random, nodes + 2, count);
+    let mut lists = Lists::of(&affixes, [random.below(nodes + 2) as u32, random_amount(random), random.below(3) as u32]);
+    let other = (count + 1 + random.below(9)) % 10;
+    match random.below(3) {
+        0 => lists.prefixes.resize(other, 0),
+        1 => lists.suffixes.resize(other, 0),
+        _ => lists.nests.resize(other, 1),
+    }
+    lists
 }
 
 /// Buffers of these lengths, full of words and bytes that could be a table's; no node and no byte is in use.
@@ -112,7 +141,9 @@ pub fn wild_lent(random: &mut Random) -> Lent {
     let words = if random.one_in(8) { 4080 + random.below(40) } else { random.below(200) };
     let bytes = if random.one_in(16) { 65_530 + random.below(16) } else { random.below(60) };
     let mut lent = soiled_lent(random, words, bytes);
-    let nodes = (words / 4).saturating_sub(random.below(30));
+    // room for a block of 8 affixes now and then
+    let free = if random.one_in(4) { random.below(300) } else { random.below(30) };
+    let nodes = (words / 4).saturating_sub(free);
     lent.counts[0] = nodes as u32;
     lent.counts[1] = bytes.saturating_sub(random.below(60)) as u32;
     if random.one_in(12) {

@@ -17,6 +17,7 @@ pub mod raw {
         pub fn pursegable_text(bytes: *const u8, bytes_len: usize, columns: u32, table: *mut u32, table_len: usize, text: *mut u8, text_len: usize, counts: *mut u32, counts_len: usize) -> u32;
         pub fn pursegable_concat(nodes: *const u32, nodes_len: usize, table: *mut u32, table_len: usize, text: *const u8, text_len: usize, counts: *mut u32, counts_len: usize) -> u32;
         pub fn pursegable_intersperse(nodes: *const u32, nodes_len: usize, separator: u32, table: *mut u32, table_len: usize, text: *const u8, text_len: usize, counts: *mut u32, counts_len: usize) -> u32;
+        pub fn pursegable_block(body: u32, amount: u32, way: u32, prefixes: *const u32, prefixes_len: usize, suffixes: *const u32, suffixes_len: usize, nests: *const u8, nests_len: usize, table: *mut u32, table_len: usize, text: *const u8, text_len: usize, counts: *mut u32, counts_len: usize) -> u32;
     }
 }
 
@@ -88,7 +89,7 @@ pub fn label(table: &[u32], text: &[u8], out: &mut [u8], events: &mut [Event], w
     reported(report)
 }
 
-/// A constructor other than text, concat and intersperse. The operands are nodes but where said otherwise.
+/// A constructor other than text, concat, intersperse and block. The operands are nodes but where said otherwise.
 #[derive(Clone, Copy, Debug, PartialEq, Eq)]
 pub enum Make {
     Nil,
@@ -200,6 +201,16 @@ impl<'a> Builder<'a> {
     pub fn intersperse(&mut self, nodes: &[u32], separator: u32) -> Result<u32, u32> {
         // SAFETY: as in `text`.
         let answer = unsafe { raw::pursegable_intersperse(nodes.as_ptr(), nodes.len(), separator, self.table.as_mut_ptr(), self.table.len(), self.text.as_ptr(), self.text.len(), self.counts.as_mut_ptr(), self.counts.len()) };
+        self.made(answer)
+    }
+
+    /// The block layouts of a body between affixes, nested by an amount (way 0 adds, 1 subtracts). An affix is a prefix, a suffix
+    /// and whether it is nested; above 8 of them, or lists of different lengths, are refused with 1, and none gives the body.
+    pub fn block(&mut self, body: u32, amount: u32, way: u32, prefixes: &[u32], suffixes: &[u32], nests: &[bool]) -> Result<u32, u32> {
+        // SAFETY: as in `text`; a bool is one byte, 0 or 1.
+        let answer = unsafe {
+            raw::pursegable_block(body, amount, way, prefixes.as_ptr(), prefixes.len(), suffixes.as_ptr(), suffixes.len(), nests.as_ptr().cast(), nests.len(), self.table.as_mut_ptr(), self.table.len(), self.text.as_ptr(), self.text.len(), self.counts.as_mut_ptr(), self.counts.len())
+        };
         self.made(answer)
     }
 }

@@ -115,61 +115,72 @@ fn make(w: &[u32]) -> Option<Make> {
     })
 }
 
-/// The scripts that start with no node: the builder can't be given other counts.
-#[test]
-fn constructors() {
-    let lines: Vec<&str> = CASES.lines().filter(|l| !l.starts_with('#') && !l.starts_with("call")).collect();
-    let mut count = 0;
-    for script in lines.split(|l| l.starts_with("counts")).zip(std::iter::once("").chain(lines.iter().copied().filter(|l| l.starts_with("counts")))) {
-        let (ops, head) = script;
-        if !head.starts_with("counts 0 0 0 |") {
-            continue;
+/// The constructor of a line, called; nothing if the builder can't be asked for it.
+fn construct(builder: &mut Builder, part: &[&str]) -> Option<Result<u32, u32>> {
+    let (name, args) = part[0].trim().split_once(' ').unwrap_or((part[0].trim(), ""));
+    Some(match name {
+        "make" => builder.make(make(&words(args))?),
+        "text" => {
+            let (b, c) = args.split_once(' ').unwrap();
+            builder.text(&bytes(b), words(c)[0])
         }
-        let sizes = words(head.split('|').nth(1).unwrap());
-        let (mut table, mut text) = (vec![WORD; sizes[0] as usize], vec![BYTE; sizes[1] as usize]);
-        let mut builder = Builder::new(&mut table, &mut text);
-        let mut held = None;
-        for line in ops {
-            let part: Vec<&str> = line.split('|').collect();
-            let (name, args) = part[0].trim().split_once(' ').unwrap_or((part[0].trim(), ""));
-            if name == "holds" {
-                held = Some((words(part[1]), bytes(part[2])));
-                continue;
-            }
-            if name == "lay" {
-                let (at, want, used) = (words(args), words(part[1]), bytes(part[2]));
-                let (t, x) = builder.upto(at[0]);
-                let (mut out, mut events, mut work) = (vec![BYTE; used.len()], [EVENT; 1], vec![WORD; WORK_WORDS]);
-                let r = layout(t, x, at[1], 1_000_000, &mut out, &mut events, &mut work);
-                assert_eq!(r, Report { answer: want[0], place: want[1], steps: want[2], bytes: used.len(), events: 0 }, "{line}");
-                assert_eq!(out, used, "{line}");
-                count += 1;
-                continue;
-            }
-            let want = words(part[1]);
-            let got = match name {
-                "make" => match make(&words(args)) {
-                    Some(m) => builder.make(m),
-                    None => continue,
-                },
-                "text" => {
-                    let (b, c) = args.split_once(' ').unwrap();
-                    builder.text(&bytes(b), words(c)[0])
-                }
-                "concat" => builder.concat(&words(args)),
-                _ => {
-                    let w = words(args);
-                    builder.intersperse(&w[1..], w[0])
-                }
-            };
+        "concat" => builder.concat(&words(args)),
+        "block" => {
+            let flags: Vec<bool> = words(part[3]).iter().map(|byte| *byte != 0).collect();
+            let w = words(args);
+            builder.block(w[0], w[1], w[2], &words(part[1]), &words(part[2]), &flags)
+        }
+        "intersperse" => {
+            let w = words(args);
+            builder.intersperse(&w[1..], w[0])
+        }
+        _ => panic!("what is {name}?"),
+    })
+}
+
+/// Lays a node out; `lay NODE WIDTH | answer place steps | output`.
+fn lay(builder: &Builder, part: &[&str]) {
+    let (at, want, used) = (words(&part[0]["lay".len()..]), words(part[1]), bytes(part[2]));
+    let (table, text) = builder.upto(at[0]);
+    let (mut out, mut events, mut work) = (vec![BYTE; used.len()], [EVENT; 1], vec![WORD; WORK_WORDS]);
+    let report = layout(table, text, at[1], 1_000_000, &mut out, &mut events, &mut work);
+    assert_eq!(report, Report { answer: want[0], place: want[1], steps: want[2], bytes: used.len(), events: 0 }, "{part:?}");
+    assert_eq!(out, used, "{part:?}");
+}
+
+/// A script in buffers of these sizes; how many constructors and layouts it has.
+fn run(head: &str, script: &[&str]) -> usize {
+    let sizes = words(head.split('|').nth(1).unwrap());
+    let (mut table, mut text) = (vec![WORD; sizes[0] as usize], vec![BYTE; sizes[1] as usize]);
+    let mut builder = Builder::new(&mut table, &mut text);
+    let (mut count, mut held) = (0, None);
+    for line in script {
+        let part: Vec<&str> = line.split('|').collect();
+        if line.starts_with("holds") {
+            held = Some((words(part[1]), bytes(part[2])));
+        } else if line.starts_with("lay") {
+            lay(&builder, &part);
+            count += 1;
+        } else if let Some(got) = construct(&mut builder, &part) {
+            let want = words(part.last().unwrap());
             assert_eq!(got, if want[0] == 0 { Ok(want[3]) } else { Err(want[0]) }, "{line}");
             assert_eq!(builder.counts(), (want[1] as usize, want[2] as usize), "{line}");
             count += 1;
         }
-        let (w, b) = held.expect("a script ends with what it holds");
-        assert_eq!(table, padded(&w, table.len(), WORD), "the table of {head}");
-        assert_eq!(text, padded(&b, text.len(), BYTE), "the text of {head}");
     }
-    assert!(count > 50, "only {count} constructors");
+    let (w, b) = held.expect("a script ends with what it holds");
+    assert_eq!(table, padded(&w, table.len(), WORD), "the table of {head}");
+    assert_eq!(text, padded(&b, text.len(), BYTE), "the text of {head}");
+    count
+}
+
+/// The scripts that start with no node: the builder can't be given other counts.
+#[test]
+fn constructors() {
+    let lines: Vec<&str> = CASES.lines().filter(|l| !l.starts_with('#') && !l.starts_with("call")).collect();
+    let heads = lines.iter().filter(|l| l.starts_with("counts"));
+    let scripts = lines.split(|l| l.starts_with("counts")).skip(1);
+    let count: usize = heads.zip(scripts).filter(|(head, _)| head.starts_with("counts 0 0 0 |")).map(|(head, script)| run(head, script)).sum();
+    assert!(count > 100, "only {count} constructors");
     println!("cases.rs: {count} constructors as they should be");
 }

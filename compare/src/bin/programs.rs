@@ -6,32 +6,25 @@
 //! all differs from the archive.
 
 use compare::calls::Call;
-use compare::make::{Builder, Make};
+use compare::make::{Affix, Builder, Make};
+use compare::model::kind::NIL;
 use compare::programs::{random_program, with_operands};
 use compare::tables::{random_width, Random, Table};
 #[cfg(archive)]
 use compare::{
     made::Lent,
-    programs::{soiled_lent, wild_lent, wild_make},
+    programs::{soiled_lent, uneven_lists, wild_lent, wild_make},
 };
 use std::collections::BTreeMap;
+#[cfg(archive)]
+use std::fmt::Debug;
 use std::time::Instant;
 
 /// Layouts with more steps than this are left out.
 const MOST_STEPS: u32 = 100_000;
 
 fn main() {
-    let (mut count, mut seed) = (20_000u64, 1u64);
-    for argument in std::env::args().skip(1) {
-        match argument.split_once('=').and_then(|(name, n)| Some((name, n.parse().ok()?))) {
-            Some(("count", n)) => count = n,
-            Some(("seed", n)) => seed = n,
-            _ => {
-                eprintln!("programs: what is {argument}? Known: count=N seed=S");
-                std::process::exit(2);
-            }
-        }
-    }
+    let (count, seed) = arguments();
     if !cfg!(pretty) {
         println!("crate pretty is not at hand (its source's folder: PRETTY_SOURCE), so nothing is compared with it");
     }
@@ -46,27 +39,36 @@ fn main() {
         let program = random_program(&mut random, length);
         tally.program(&program, [random_width(&mut random), random_width(&mut random)]);
     }
-    println!("programs {count}, seed {seed}, calls {}, of them blocks with affixes {}", tally.calls, tally.blocks);
-    println!("stopped for room {}, nodes in all {}, most {}", tally.stopped, tally.nodes, tally.most);
-    println!("documents compared node by node {}", tally.node_by_node);
-    println!("layouts compared {}, left out {}", tally.compared, tally.left_out);
-    println!("  clean {}, marks clean {}", tally.clean, tally.marks_clean);
-    if cfg!(archive) {
-        let answers: Vec<String> = tally.answers.iter().map(|(answer, n)| format!("{answer}: {n}")).collect();
-        println!("calls of our archive: of the programs {}, at random {}", tally.of_programs, tally.at_random);
-        println!("  answers {}; blocks, which have no export: {}", answers.join(", "), tally.not_exported);
-    }
-    println!("DIFFERENT where they must not: {}", tally.wrong);
+    println!("programs {count}, seed {seed}, calls {}", tally.calls);
+    tally.tell();
     println!("{:.1} s", started.elapsed().as_secs_f64());
     if tally.wrong > 0 {
         std::process::exit(1);
     }
 }
 
+fn arguments() -> (u64, u64) {
+    let (mut count, mut seed) = (20_000, 1);
+    for argument in std::env::args().skip(1) {
+        match argument.split_once('=').and_then(|(name, n)| Some((name, n.parse().ok()?))) {
+            Some(("count", n)) => count = n,
+            Some(("seed", n)) => seed = n,
+            _ => {
+                eprintln!("programs: what is {argument}? Known: count=N seed=S");
+                std::process::exit(2);
+            }
+        }
+    }
+    (count, seed)
+}
+
 #[derive(Default)]
 struct Tally {
     calls: u64,
-    blocks: u64,
+    /// blocks by their number of affixes
+    blocks: [u64; 9],
+    /// those with more than one, all of whose prefixes are Nil nodes
+    bare: u64,
     stopped: u64,
     nodes: u64,
     node_by_node: u64,
@@ -80,11 +82,27 @@ struct Tally {
     of_programs: u64,
     at_random: u64,
     answers: BTreeMap<u32, u64>,
-    not_exported: u64,
+    /// of them, those of blocks
+    block_answers: BTreeMap<u32, u64>,
+    uneven: u64,
     wrong: u64,
 }
 
 impl Tally {
+    fn tell(&self) {
+        println!("blocks of 0 to 8 affixes {:?}, all prefixes Nil {}", self.blocks, self.bare);
+        println!("stopped for room {}, nodes in all {}, most {}", self.stopped, self.nodes, self.most);
+        println!("documents compared node by node {}", self.node_by_node);
+        println!("layouts compared {}, left out {}", self.compared, self.left_out);
+        println!("  clean {}, marks clean {}", self.clean, self.marks_clean);
+        if cfg!(archive) {
+            println!("calls of our archive: of the programs {}, at random {}", self.of_programs, self.at_random);
+            println!("  answers {:?}", self.answers);
+            println!("  of blocks {:?}; of blocks with uneven lists, all 1: {}", self.block_answers, self.uneven);
+        }
+        println!("DIFFERENT where they must not: {}", self.wrong);
+    }
+
     fn program(&mut self, program: &[Make], widths: [u32; 2]) {
         let mut builder = Builder::new(4096, 65_536);
         let mut nodes: Vec<u32> = Vec::new();
@@ -96,7 +114,11 @@ impl Tally {
                     break;
                 }
             }
-            self.blocks += u64::from(matches!(make, Make::Block(affixes, ..) if !affixes.is_empty()));
+            if let Make::Block(affixes, ..) = make {
+                let nil = |affix: &Affix| builder.used.words[4 * nodes[affix.prefix as usize] as usize] == NIL;
+                self.blocks[affixes.len()] += 1;
+                self.bare += u64::from(affixes.len() > 1 && affixes.iter().all(nil));
+            }
         }
         self.calls += nodes.len() as u64;
         self.nodes += builder.used.nodes() as u64;
@@ -119,33 +141,43 @@ impl Tally {
         let bytes = if random.one_in(6) { random.below(bytes + 1) } else { bytes + random.below(4) };
         let mut lent = soiled_lent(random, words, bytes);
         for make in program {
-            self.of_programs += self.called(&mut lent, &with_operands(make, &|call| nodes[call as usize]));
+            self.of_programs += 1;
+            self.called(&mut lent, &with_operands(make, &|call| nodes[call as usize]));
         }
         let mut lent = wild_lent(&mut self.lending);
         for _ in program {
+            self.at_random += 1;
             let random = &mut self.lending;
-            if random.one_in(40) {
-                let unknown = [*random.of(&[6, 19, 20, 1 << 31, u32::MAX]), 0, 0, 0];
-                self.at_random += self.refused(&mut lent, unknown);
-            }
             let present = lent.counts.first().map_or(0, |&n| n.min(2000) as usize);
-            let make = wild_make(&mut self.lending, present);
-            self.at_random += self.called(&mut lent, &make);
+            match random.below(80) {
+                0 | 1 => {
+                    let unknown = [*random.of(&[6, 19, 20, 1 << 31, u32::MAX]), 0, 0, 0];
+                    self.refused(&mut lent, 2, &unknown, &|lent| lent.by_words(unknown));
+                }
+                2 => {
+                    let lists = uneven_lists(random, present);
+                    self.uneven += 1;
+                    self.refused(&mut lent, 1, &lists, &|lent| lent.by_lists(&lists));
+                }
+                _ => {
+                    let make = wild_make(random, present);
+                    self.called(&mut lent, &make);
+                }
+            }
         }
     }
 
-    /// One call of the archive beside the model; 1 if there was one.
+    /// One call of the archive beside the model.
     #[cfg(archive)]
-    fn called(&mut self, lent: &mut Lent, make: &Make) -> u64 {
+    fn called(&mut self, lent: &mut Lent, make: &Make) {
         let mut wanted = lent.clone();
         let answer = wanted.by_model(make);
         let before = lent.clone();
-        let Some(ours) = lent.by_archive(make) else {
-            self.not_exported += 1;
-            *lent = wanted;
-            return 0;
-        };
+        let ours = lent.by_archive(make);
         *self.answers.entry(answer).or_default() += 1;
+        if matches!(make, Make::Block(..)) {
+            *self.block_answers.entry(answer).or_default() += 1;
+        }
         if ours != answer || *lent != wanted {
             self.wrong += 1;
             if self.wrong <= 5 {
@@ -155,20 +187,19 @@ impl Tally {
             }
             *lent = wanted;
         }
-        1
     }
 
-    /// No constructor has this number: answer 2, or 1 if there aren't three words of counts, and nothing changes.
+    /// A call that no constructor of the model is: this answer, or 1 if there aren't three words of counts, and nothing changes.
     #[cfg(archive)]
-    fn refused(&mut self, lent: &mut Lent, words: [u32; 4]) -> u64 {
+    fn refused(&mut self, lent: &mut Lent, answer: u32, asked: &dyn Debug, call: &dyn Fn(&mut Lent) -> u32) {
         let before = lent.clone();
-        let answer = if lent.counts.len() < 3 { 1 } else { 2 };
+        let answer = if lent.counts.len() < 3 { 1 } else { answer };
         *self.answers.entry(answer).or_default() += 1;
-        if lent.by_words(words) != answer || *lent != before {
+        let ours = call(lent);
+        if ours != answer || *lent != before {
             self.wrong += 1;
-            println!("DIFFERS from the archive, unknown constructor {words:?} on {before:?}\n  archive {lent:?}");
+            println!("DIFFERS from the archive, {asked:?} on {before:?}\n  archive {ours} {lent:?}");
         }
-        1
     }
 
     #[cfg(not(pretty))]
