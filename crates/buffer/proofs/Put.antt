@@ -5,15 +5,22 @@
 --     fill-none, fill-more, fill-up, fill-end   a loop that fills: before it, a store more, and up to the buffer's end
 --     copy-more                        a part of another list: a store more
 --     put-one, put-put, put-cons       a single store; a run put behind a run, and behind a single store
+--     part-put                         the front up to a part of what is put
+--     put-same, fill-run, fill-kept    what stands already; a run more filled, or found full
+--     zero-more, zero-all              all 0: one element more; then it is filled with 0
+--     block-filled, block-clean, word-cleared, all-cleared    a loop that clears by blocks: a block filled or found clean, a word, the end
 -- Assumes nothing.
 use mathlib.Core.Path.{_≡_, refl, sym, ap, ap₂, _∙_}
+use mathlib.Core.Bool.{Bool, true, false, _&&_, and-assoc, true≢false}
 use mathlib.Core.List.{List, [], _∷_, _++_, append-assoc, append-nil}
-use Prim.Native.Nat.{ℕ, suc, _+_, _-_, _≤_, _<_}
+use Prim.Native.Nat.{ℕ, zero, suc, _+_, _-_, _≤_, _<_}
 use native.Mathlib.Numerals.{add-one}
 use native.Mathlib.Omega.{arith}
 use lib.ListN.{length, take, drop, set, replicate, getD, length-take, length-append, length-replicate, length-drop, length-set, take-append-drop, replicate-append-replicate, drop-of-length-le}
-use lib.Seq.{drop-cons, take-suc, take-at, drop-at, set-at, append-snoc, getD-drop, drop-drop, length-take-le}
-use Rattle.buffer.specs.Run.{put}
+use lib.Seq.{drop-cons, take-suc, take-at, drop-at, set-at, append-snoc, getD-drop, drop-drop, length-take-le, take-take, take-append-add}
+use lib.Dec.{eqb}
+use borrow.Author.Tests.{eqb-true}
+use Rattle.buffer.specs.Run.{put, allZero}
 
 module _ {A : Type 0} (d : List A) (at : ℕ) where
   pub put-none : put d at [] ≡ d
@@ -105,3 +112,79 @@ module _ {A : Type 0} (d : List A) (at : ℕ) where
 
   pub put-cons : (v : A) (t : List A) → at < length d → put (set d at v) (at + 1) t ≡ put d at (v ∷ t)
   put-cons v t h = ap (λ (x : List A). put x (at + 1) t) (put-one v h) ∙ put-put (v ∷ []) t 1 refl (omega arith)
+
+  pub part-put : (s : List A) (m n : ℕ) → length s ≡ m → n ≤ m → at + m ≤ length d → take (at + n) (put d at s) ≡ take at d ++ take n s
+  part-put s m n e le h =
+      let front : length (take at d) ≡ at = length-take-le at d (omega arith) in
+      sym (take-take (at + n) (at + m) (put d at s) (omega arith))
+      ∙ ap (take (at + n)) (take-put s m e h)
+      ∙ ap (λ (k : ℕ). take (k + n) (take at d ++ s)) (sym front)
+      ∙ take-append-add (take at d) s n
+
+  -- ---- what stands already
+
+  pub put-same : (m : ℕ) (s : List A) → length s ≡ m → take m (drop at d) ≡ s → put d at s ≡ d
+  unfolding put
+  put-same m s e h =
+      ap₂ (λ (x : List A) (k : ℕ). (take at d ++ x) ++ drop (at + k) d) (sym h) e
+      ∙ append-assoc (take at d) (take m (drop at d)) (drop (at + m) d)
+      ∙ ap (λ (x : List A). take at d ++ (take m (drop at d) ++ x)) (sym (drop-drop m at d))
+      ∙ ap (λ (x : List A). take at d ++ x) (take-append-drop m (drop at d))
+      ∙ take-append-drop at d
+
+module _ {A : Type 0} (d : List A) (at : ℕ) (v : A) (n m : ℕ) (buffer : List A) (h : at + n + m ≤ length d) (f : Filling d at v n buffer) where
+  pub fill-run : Filling d at v (n + m) (put buffer (at + n) (replicate m v))
+  fill-run = (
+    ap (λ (l : List A). put l (at + n) (replicate m v)) (f .0) ∙ put-put d at (replicate n v) (replicate m v) n (length-replicate n v) (omega arith) ∙ ap (put d at) (replicate-append-replicate n m v),
+    length-put buffer (at + n) (replicate m v) m (length-replicate m v) (rw (f .1) h) ∙ f .1,
+  )
+
+  pub fill-kept : take m (drop (at + n) buffer) ≡ replicate m v → Filling d at v (n + m) buffer
+  fill-kept e = rw (put-same buffer (at + n) m (replicate m v) (length-replicate m v) e) at fill-run
+
+-- ---- all 0
+
+pub zero-more : (s : List ℕ) (i : ℕ) → i < length s → allZero (take i s) && eqb (getD s i 0) 0 ≡ allZero (take (i + 1) s)
+unfolding allZero
+zero-more s i h = go s i h ∙ ap (λ (k : ℕ). allZero (take k s)) (sym (add-one i)) where
+  end : (q : Bool) → true && q ≡ q && true
+  end true = refl
+  end false = refl
+
+  go : (s : List ℕ) (i : ℕ) → i < length s → allZero (take i s) && eqb (getD s i 0) 0 ≡ allZero (take (suc i) s)
+  go [] i h = absurd (omega arith)
+  go (x ∷ s) zero h = end (eqb x 0)
+  go (x ∷ s) (suc i) h = and-assoc (eqb x 0) (allZero (take i s)) (eqb (getD s i 0) 0) ∙ ap (λ (q : Bool). eqb x 0 && q) (go s i (omega arith))
+
+pub zero-all : (s : List ℕ) → allZero s ≡ true → s ≡ replicate (length s) 0
+unfolding allZero
+zero-all [] e = refl
+zero-all (x ∷ s) e = by (eqb x 0) refl e (zero-all s) where
+  by : (q : Bool) → eqb x 0 ≡ q → q && allZero s ≡ true → (allZero s ≡ true → s ≡ replicate (length s) 0) → x ∷ s ≡ 0 ∷ replicate (length s) 0
+  by true h k rest = ap₂ (λ (y : ℕ) (l : List ℕ). y ∷ l) (eqb-true x 0 h) (rest k)
+  by false h k rest = absurd (true≢false (sym k))
+
+-- ---- cleared by blocks: so far the buffer is 0 up to w
+
+module _ (d : List ℕ) (w : ℕ) (buffer : List ℕ) (f : Filling d 0 0 w buffer) where
+  module _ (m : ℕ) (h : w + m ≤ length d) where
+    pub block-filled : (b : List ℕ) → b ≡ put buffer w (replicate m 0) → Filling d 0 0 (w + m) b
+    block-filled b e =
+        let z : 0 + w ≡ w = omega arith in
+        rw e (rw z at (fill-run d 0 0 w m buffer (omega arith) f))
+
+    pub block-clean : (b : List ℕ) → b ≡ buffer → allZero (take m (drop w buffer)) ≡ true → Filling d 0 0 (w + m) b
+    block-clean b e k =
+        let z : w ≡ 0 + w = omega arith in
+        let there : length (take m (drop w buffer)) ≡ m = length-take-le m (drop w buffer) (simp length-drop (omega arith)) in
+        let clean = zero-all (take m (drop w buffer)) k ∙ ap (λ (n : ℕ). replicate n 0) there in
+        rw e (fill-kept d 0 0 w m buffer (omega arith) f (ap (λ (n : ℕ). take m (drop n buffer)) (sym z) ∙ clean))
+
+  pub word-cleared : w < length d → Filling d 0 0 (w + 1) (set buffer w 0)
+  word-cleared h = let z : 0 + w ≡ w = omega arith in rw z at (fill-more d 0 0 w buffer (omega arith) f)
+
+  pub all-cleared : length d ≤ w → w ≤ length d → buffer ≡ replicate (length d) 0
+  all-cleared h k =
+      let e : w ≡ length d - 0 = omega arith in
+      let n : length d - 0 ≡ length d = omega arith in
+      f .0 ∙ ap (λ (m : ℕ). put d 0 (replicate m 0)) e ∙ fill-end d 0 0 ∙ ap (λ (m : ℕ). replicate m 0) n

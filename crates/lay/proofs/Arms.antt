@@ -52,10 +52,10 @@ module _ (s : State) (out bs : List ℕ) (n : ℕ) (c : Page → ℕ) (size : le
       }
 
   -- k is the column, u the bytes and o the flag afterwards
-  pub put-yes : (out′ : List ℕ) (k u o : ℕ) (ob : Bool) → s .used + n ≤ length out → out′ ≡ run.put out (s .used) bs → length out′ ≡ length out → ((ev : List ℕ) → k ≡ c (pageOf s out ev)) → u ≡ s .used + n → flagOf o ≡ ob
+  pub put-yes : (out′ : List ℕ) (k u o : ℕ) (ob : Bool) → s .used + n ≤ length out → take (s .used + n) out′ ≡ take (s .used) out ++ bs → length out′ ≡ length out → ((ev : List ℕ) → k ≡ c (pageOf s out ev)) → u ≡ s .used + n → flagOf o ≡ ob
       → Wrote s out (Done (record { column = record { 0 = k }; used = u; marks = s .marks; left = s .left; over = o; depth = s .depth })) out′ (λ L p w. put L (added c bs p) (s .left) ob w)
   put-yes out′ k u o ob fits e long ek eu eo =
-      let t : take u out′ ≡ take (s .used) out ++ bs = rw (eu, e) (take-put out (s .used) bs n size fits) in
+      let t : take u out′ ≡ take (s .used) out ++ bs = rw eu e in
       record {
         turning = λ L ev w room marks. record {
           same = rw (t, eo, ek ev) (sym (rw (taken-is ev, room, le-leb (s .used + n) (length out) fits)));
@@ -90,18 +90,18 @@ abbrev deeper : State → ℕ → State
 deeper s o = record { column = s .column; used = s .used; marks = s .marks; left = s .left; over = o; depth = s .depth + 1 }
 
 pub append-kept : (s : State) (w w′ : List ℕ) (h : Hand) (a b i m : ℕ) → h ≡ handOf a i m → stackOf (s .depth + 1) w′ ≡ node b i (modeOf m) ∷ stackOf (s .depth) w
-    → Kept s (Go h (deeper s (s .over))) w′ (λ p. on p (s .left) (flagOf (s .over)) (node a i (modeOf m) ∷ node b i (modeOf m) ∷ stackOf (s .depth) w))
+    → Kept s (Go (deeper s (s .over)) h) w′ (λ p. on p (s .left) (flagOf (s .over)) (node a i (modeOf m) ∷ node b i (modeOf m) ∷ stackOf (s .depth) w))
 append-kept s w w′ h a b i m eh ew = record { turning = λ out ev used marks. record { same = rw (eh, ew); used = used; marks = marks } }
 
 pub union-kept : (s : State) (w w′ : List ℕ) (h : Hand) (a b i m : ℕ) → h ≡ handOf a i m
     → stackOf (s .depth + 1) w′ ≡ trial b i (modeOf m) (savedOf (s .column .0) (s .used) (s .marks) (s .over)) ∷ stackOf (s .depth) w
-    → Kept s (Go h (deeper s 0)) w′ (λ p. on p (s .left) false (node a i (modeOf m) ∷ trial b i (modeOf m) (record { column = p .column; bytes = length (p .out); events = length (p .events); over = flagOf (s .over) }) ∷ stackOf (s .depth) w))
+    → Kept s (Go (deeper s 0) h) w′ (λ p. on p (s .left) false (node a i (modeOf m) ∷ trial b i (modeOf m) (record { column = p .column; bytes = length (p .out); events = length (p .events); over = flagOf (s .over) }) ∷ stackOf (s .depth) w))
 union-kept s w w′ h a b i m eh ew =
     record { turning = λ out ev used marks. record { same = rw (eh, ew, length-take-le (s .used) out used, length-events (s .marks) ev); used = used; marks = marks } }
 
 -- ---- a group
 
-pub group-flat : (T w : List ℕ) (W a i m : ℕ) (s : State) (h : Hand) → (m ≡ 0 → ⊥) → h ≡ handOf a i m → Kept s (Go h s) w (λ p. grouped T W (modeOf m) a i p (s .left) (flagOf (s .over)) (stackOf (s .depth) w))
+pub group-flat : (T w : List ℕ) (W a i m : ℕ) (s : State) (h : Hand) → (m ≡ 0 → ⊥) → h ≡ handOf a i m → Kept s (Go s h) w (λ p. grouped T W (modeOf m) a i p (s .left) (flagOf (s .over)) (stackOf (s .depth) w))
 group-flat T w W a i m s h ne eh = record { turning = λ out ev used marks. record { same = rw (eh, flat-mode m ne); used = used; marks = marks } }
 
 abbrev fewer : State → ℕ → State
@@ -112,10 +112,10 @@ module _ (T w w′ : List ℕ) (W a i m : ℕ) (s : State) (v : Fit) (broken-now
   abbrev leads : Page → Turned
   leads p = grouped T W (modeOf m) a i p (s .left) (flagOf (s .over)) (stackOf (s .depth) w)
 
-  pub group-yes : (left : ℕ) → v ≡ Yes left → Kept s (Go (handOf a i 1) (fewer s left)) w′ leads
+  pub group-yes : (left : ℕ) → v ≡ Yes left → Kept s (Go (fewer s left) (handOf a i 1)) w′ leads
   group-yes left e = record { turning = λ out ev used marks. record { same = rw (broken-now, ← (f .said), e, same-stack); used = used; marks = marks } }
 
-  pub group-no : (left : ℕ) → v ≡ No left → Kept s (Go (handOf a i 0) (fewer s left)) w′ leads
+  pub group-no : (left : ℕ) → v ≡ No left → Kept s (Go (fewer s left) (handOf a i 0)) w′ leads
   group-no left e = record { turning = λ out ev used marks. record { same = rw (broken-now, ← (f .said), e, same-stack); used = used; marks = marks } }
 
   pub group-due : (n : NodeNo) → v ≡ Due n → Kept s (Stop 7 n 0) w′ leads
@@ -149,7 +149,7 @@ saved-counts N b k d r w le lt t h =
 pub give-back : (s : State) (w out ev : List ℕ) (d : ℕ) (h : Hand) (v : SavedWords) (q : State)
     → s .used ≤ length out → s .marks * 3 ≤ length ev → savedAt w d .bytes ≤ s .used → savedAt w d .events ≤ s .marks
     → HandAt w d h → SavedAt w d v → q ≡ restoredOf (s .left) v d
-    → Turning (Go h q) out ev w (on (back (savedAt w d) (pageOf s out ev)) (s .left) (savedAt w d .over) (node (getD w (d * 4) 0) (getD w (d * 4 + 1) 0) (modeOf (getD w (d * 4 + 2) 0)) ∷ stackOf d w))
+    → Turning (Go q h) out ev w (on (back (savedAt w d) (pageOf s out ev)) (s .left) (savedAt w d .over) (node (getD w (d * 4) 0) (getD w (d * 4 + 1) 0) (modeOf (getD w (d * 4 + 2) 0)) ∷ stackOf d w))
 give-back s w out ev d h v q used marks lb lk ph pv eq =
     record {
       same = rw (eq, ph .node, ph .indent, ph .mode, pv .column, pv .used, pv .marks, pv .over, take-take (savedAt w d .bytes) (s .used) out lb, events-front (s .marks) (savedAt w d .events) ev lk);
@@ -168,7 +168,7 @@ fail-none s w r f e =
     }
 
 pub fail-some : (s : State) (w : List ℕ) (r : ℕ) (h : Hand) (v : SavedWords) (q : State) → Nearest w (s .depth) 1 r → (r ≡ 0 → ⊥) → HandAt w (r - 1) h → SavedAt w (r - 1) v → q ≡ restoredOf (s .left) v (r - 1)
-    → Restoring s w (Go h q) (λ p. giveUp p (s .left) (stackOf (s .depth) w))
+    → Restoring s w (Go q h) (λ p. giveUp p (s .left) (stackOf (s .depth) w))
 fail-some s w r h v q f ne ph pv eq =
     let lt : 0 < r = omega arith in
     record {
@@ -190,7 +190,7 @@ annotated-no s ev ev′ w w′ n o l q r e f =
     record { turning = λ L out slots used. record { same = sym (rw (length-events (s .marks) ev, slots, ← (f .fits), e)); used = omega arith; marks = omega arith } }
 
 pub annotated-yes : (s : State) (ev ev′ w w′ : List ℕ) (h : Hand) (n a i m l : ℕ) (r : Bool) → r ≡ true → Noted ev (s .marks) (s .used) 1 l r ev′ → length ev′ ≡ length ev → h ≡ handOf a i m → stackOf (s .depth + 1) w′ ≡ mark n l ∷ stackOf (s .depth) w
-    → Annotated s ev (Go h (record { column = s .column; used = s .used; marks = s .marks + 1; left = s .left; over = s .over; depth = s .depth + 1 })) ev′ w′
+    → Annotated s ev (Go (record { column = s .column; used = s .used; marks = s .marks + 1; left = s .left; over = s .over; depth = s .depth + 1 }) h) ev′ w′
     (λ L p. event L n 1 l p (s .left) (flagOf (s .over)) (node a i (modeOf m) ∷ mark n l ∷ stackOf (s .depth) w))
 annotated-yes s ev ev′ w w′ h n a i m l r e f long eh ew =
     record {
@@ -215,5 +215,6 @@ nest-subtracts i k (suc way) r ne e = e
 pub hardline-size : (i j : ℕ) → i ≡ j → length {A = ℕ} (10 ∷ replicate j 32) ≡ suc i
 hardline-size i j e = ap suc (length-replicate j 32 ∙ sym e)
 
-pub hardline-put : (out out′ : List ℕ) (at i j : ℕ) → i ≡ j → out′ ≡ run.put out at (10 ∷ replicate i 32) → out′ ≡ run.put out at (10 ∷ replicate j 32)
-hardline-put out out′ at i j e h = h ∙ ap (λ (k : ℕ). run.put out at (10 ∷ replicate k 32)) e
+pub hardline-put : (out out′ : List ℕ) (at i j : ℕ) → i ≡ j → at + suc i ≤ length out → out′ ≡ run.put out at (10 ∷ replicate i 32) → take (at + suc i) out′ ≡ take at out ++ (10 ∷ replicate j 32)
+hardline-put out out′ at i j e fits h =
+    ap (take (at + suc i)) (h ∙ ap (λ (k : ℕ). run.put out at (10 ∷ replicate k 32)) e) ∙ take-put out at (10 ∷ replicate j 32) (suc i) (hardline-size i j e) fits

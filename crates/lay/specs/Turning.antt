@@ -17,17 +17,17 @@ use Rattle.lay.specs.declared.Turn.the-variants.{Go, Done, Stop}
 
 -- where a turn of the code leads, over the output, the events and the work area
 abbrev pub turnedOf : Turn → List ℕ → List ℕ → List ℕ → Turned
-turnedOf (Go h s) out ev w = on (pageOf s out ev) (s .left) (flagOf (s .over)) (top h ∷ stackOf (s .depth) w)
+turnedOf (Go s h) out ev w = on (pageOf s out ev) (s .left) (flagOf (s .over)) (top h ∷ stackOf (s .depth) w)
 turnedOf (Done s) out ev w = on (pageOf s out ev) (s .left) (flagOf (s .over)) (stackOf (s .depth) w)
 turnedOf (Stop a n left) out ev w = stop a (n .0) left
 
 abbrev pub usedOf : Turn → ℕ
-usedOf (Go h s) = s .used
+usedOf (Go s h) = s .used
 usedOf (Done s) = s .used
 usedOf (Stop a n left) = 0
 
 abbrev pub marksOf : Turn → ℕ
-marksOf (Go h s) = s .marks
+marksOf (Go s h) = s .marks
 marksOf (Done s) = s .marks
 marksOf (Stop a n left) = 0
 

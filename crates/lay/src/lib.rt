@@ -25,20 +25,21 @@ ghost use Rattle.fitting.specs.Fitting.{Fitting};
 ghost use Rattle.lay.specs.State.{handOf, restoredOf};
 ghost use Rattle.lay.specs.Turning.{Kept, Wrote, Noted, Annotated, Restoring};
 
-// A layout on its way: the column, the bytes and the events so far, the steps left, whether a Text ended past width in the innermost trial
-// (0 is no), and how many entries wait.
+// A layout on its way: the column, the steps left, the bytes and the events so far, whether a Text ended past width in the innermost trial
+// (0 is no), and how many entries wait. Counts are as wide as a place in a buffer, and the state comes first in a turn: then a compiler
+// keeps each in a register of its own (docs/PERFORMANCE.md).
 pub struct State {
     pub column: Column,
-    pub used: u32,
-    pub marks: u32,
     pub left: u32,
+    pub used: usize,
+    pub marks: usize,
     pub over: u32,
     pub depth: usize,
 }
 
 // Where a turn leads: a node goes on in hand; the node is done; or the run stops, with the answer, the place and the steps left.
 pub enum Turn {
-    Go(Hand, State),
+    Go(State, Hand),
     Done(State),
     Stop(u32, NodeNo, u32),
 }
@@ -56,19 +57,19 @@ pub fn lay_text(
     requires { ⌜ (from + len ≤ length (now text)) × (length (now text) ≤ 65536) × (s .column .0 ≤ 65536) × (columns ≤ 65536) × (s .used ≤ length (now out)) × (length (now out) ≤ 65536) ⌝ }
     ensures { λ r. ⌜ Wrote s (now (out .entry)) r (now (out .exit)) (λ L p w. put L (wrote (take len (drop from (now (text .entry)))) columns p) (s .left) (flagOf (s .over) || ltb width (s .column .0 + columns)) w) ⌝ }
 {
-    let used = s.used as usize;
+    let used = s.used;
     let n = len as usize;
     if out.len() - used < n {
         return Turn::Stop(8, NodeNo(0), s.left);
     }
-    buffer::copy_bytes(text, from as usize, n, out, used);
+    buffer::copy_over(text, from as usize, n, out, used);
     let end = s.column.0 + columns;
     let over = if width < end { 1 } else { s.over };
     Turn::Done(State {
         column: Column(end),
-        used: s.used + len,
-        marks: s.marks,
         left: s.left,
+        used: used + n,
+        marks: s.marks,
         over,
         depth: s.depth,
     })
@@ -82,7 +83,7 @@ pub fn lay_hardline(out: &mut [u8], work: &[u32], s: State, own: Indent) -> Turn
     let depth = s.depth;
     let d = waiting::nearest(work, depth, waiting::NODE);
     let indent = if d == 0 { own.0 } else { work[d * 4 - 3] };
-    let used = s.used as usize;
+    let used = s.used;
     let n = indent as usize;
     if out.len() - used <= n {
         return Turn::Stop(8, NodeNo(0), s.left);
@@ -90,24 +91,24 @@ pub fn lay_hardline(out: &mut [u8], work: &[u32], s: State, own: Indent) -> Turn
     buffer::newline(out, used, n);
     Turn::Done(State {
         column: Column(indent),
-        used: s.used + 1 + indent,
-        marks: s.marks,
         left: s.left,
+        used: used + 1 + n,
+        marks: s.marks,
         over: s.over,
         depth,
     })
 }
 
 // An event is noted, or there is no room for it.
-pub fn put_event(events: &mut [u32], marks: u32, offset: u32, mark: u32, label: u32) -> bool
-    requires { ⌜ (marks * 3 ≤ length (now events)) × (length (now events) ≤ 12290) ⌝ }
+pub fn put_event(events: &mut [u32], marks: usize, offset: usize, mark: u32, label: u32) -> bool
+    requires { ⌜ (marks * 3 ≤ length (now events)) × (length (now events) ≤ 12290) × (offset ≤ 65536) ⌝ }
     ensures { λ r. ⌜ Noted (now (events .entry)) marks offset mark label r (now (events .exit)) ⌝ }
 {
-    let at = (marks as usize) * 3;
+    let at = marks * 3;
     if events.len() - at < 3 {
         return false;
     }
-    events[at] = offset;
+    events[at] = offset as u32;
     events[at + 1] = mark;
     events[at + 2] = label;
     true
@@ -135,12 +136,12 @@ pub fn lay_append(work: &mut [u32], s: State, hand: Hand, first: u32, second: u3
     waiting::push_node(work, depth, child_of(hand, second));
     let mut next = s;
     next.depth = depth + 1;
-    Turn::Go(child_of(hand, first), next)
+    Turn::Go(next, child_of(hand, first))
 }
 
 // The first arm goes on as a trial.
 pub fn lay_union(work: &mut [u32], s: State, hand: Hand, first: u32, second: u32) -> Turn
-    requires { ⌜ (s .depth < 1024) × (8192 ≤ length (now work)) ⌝ }
+    requires { ⌜ (s .depth < 1024) × (8192 ≤ length (now work)) × (s .used ≤ 65536) × (s .marks ≤ 4096) ⌝ }
     ensures { λ r. ⌜ Kept s r (now (work .exit)) (λ p. going p (s .left) false (waits first (hand .indent .0) (modeOf (hand .mode .0)) ∷ tries second (hand .indent .0) (modeOf (hand .mode .0)) (record { column = p .column; bytes = length (p .out); events = length (p .events); over = flagOf (s .over) }) ∷ stackOf (s .depth) (now (work .entry)))) ⌝ }
 {
     let depth = s.depth;
@@ -151,15 +152,15 @@ pub fn lay_union(work: &mut [u32], s: State, hand: Hand, first: u32, second: u32
         child_of(hand, second),
         Saved {
             column,
-            used: s.used,
-            marks: s.marks,
+            used: s.used as u32,
+            marks: s.marks as u32,
             over: s.over,
         },
     );
     let mut next = s;
     next.depth = depth + 1;
     next.over = 0;
-    Turn::Go(child_of(hand, first), next)
+    Turn::Go(next, child_of(hand, first))
 }
 
 // A group's child goes on, flat or broken as the fit test says; met flat it stays flat and nothing is tested.
@@ -175,7 +176,7 @@ pub fn lay_group(
     ensures { λ r. ⌜ Kept s r (now (work .exit)) (λ p. grouped (now (table .entry)) width (modeOf (hand .mode .0)) child (hand .indent .0) p (s .left) (flagOf (s .over)) (stackOf (s .depth) (now (work .entry)))) ⌝ }
 {
     if hand.mode.0 != 0 {
-        return Turn::Go(child_of(hand, child), s);
+        return Turn::Go(s, child_of(hand, child));
     }
     let depth = s.depth;
     let column = s.column;
@@ -185,23 +186,23 @@ pub fn lay_group(
         Fit::Yes(left) => {
             next.left = left;
             Turn::Go(
+                next,
                 Hand {
                     node: NodeNo(child),
                     indent,
                     mode: Mode(1),
                 },
-                next,
             )
         }
         Fit::No(left) => {
             next.left = left;
             Turn::Go(
+                next,
                 Hand {
                     node: NodeNo(child),
                     indent,
                     mode: Mode(0),
                 },
-                next,
             )
         }
         Fit::Due(node) => Turn::Stop(7, node, 0),
@@ -215,9 +216,9 @@ pub fn restored(s: State, saved: Saved, d: usize) -> State
     let column = saved.column;
     State {
         column,
-        used: saved.used,
-        marks: saved.marks,
         left: s.left,
+        used: saved.used as usize,
+        marks: saved.marks as usize,
         over: saved.over,
         depth: d,
     }
@@ -234,7 +235,7 @@ pub fn lay_fail(work: &[u32], s: State) -> Turn
         return Turn::Stop(6, NodeNo(0), s.left);
     }
     let saved = waiting::saved_at(work, d - 1);
-    Turn::Go(waiting::hand_at(work, d - 1), restored(s, saved, d - 1))
+    Turn::Go(restored(s, saved, d - 1), waiting::hand_at(work, d - 1))
 }
 
 // An annotation opens; its child goes on with its end waiting.
@@ -246,7 +247,7 @@ pub fn lay_annotated(
     child: u32,
     label: u32,
 ) -> Turn
-    requires { ⌜ (s .depth < 1024) × (8192 ≤ length (now work)) × (s .marks * 3 ≤ length (now events)) × (length (now events) ≤ 12290) ⌝ }
+    requires { ⌜ (s .depth < 1024) × (8192 ≤ length (now work)) × (s .marks * 3 ≤ length (now events)) × (length (now events) ≤ 12290) × (s .used ≤ 65536) ⌝ }
     ensures { λ r. ⌜ Annotated s (now (events .entry)) r (now (events .exit)) (now (work .exit)) (λ L p. noted L (hand .node .0) 1 label p (s .left) (flagOf (s .over)) (waits child (hand .indent .0) (modeOf (hand .mode .0)) ∷ closes (hand .node .0) label ∷ stackOf (s .depth) (now (work .entry)))) ⌝ }
 {
     let node = hand.node;
@@ -258,7 +259,7 @@ pub fn lay_annotated(
     let mut next = s;
     next.depth = depth + 1;
     next.marks = s.marks + 1;
-    Turn::Go(child_of(hand, child), next)
+    Turn::Go(next, child_of(hand, child))
 }
 
 // An indentation by a Nest's amount and way.

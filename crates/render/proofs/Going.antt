@@ -168,7 +168,7 @@ module _ (T tx : List ℕ) (W limit N : ℕ) where
             rw (p .turning limit .same) (run-on (E out ev) N (g .start .valid) (g .turns) (pageOf s out ev) (suc (s .left - 1)) (flagOf (s .over)) (top h) (stackOf (s .depth) w) (g .well) (omega (arith, g .enough))) in
             reaches-from (E out ev) N (g .start .valid) (suc (s .left - 1)) (s .left) _ _ _ _ (turnedOf r out′ ev′ w′) (omega arith) (omega arith) (sym (g .said) ∙ ap (λ (k : ℕ). run (E out ev) (g .turns) (pageOf s out ev) k (flagOf (s .over)) (top h ∷ stackOf (s .depth) w)) f) t
 
-        pub going-on : (c : Hand) (a : State) → r ≡ Go c a → Going out₀ ev₀ w₀ out′ ev′ w′ c a
+        pub going-on : (c : Hand) (a : State) → r ≡ Go a c → Going out₀ ev₀ w₀ out′ ev′ w′ c a
         going-on c a e =
             let t = rw e at reach in
             let q = rw e at (p .turning limit) in
@@ -186,8 +186,14 @@ module _ (T tx : List ℕ) (W limit N : ℕ) where
               said = rw (eo, ee) (sym (t .4));
             }
 
-        pub going-less : (c : Hand) (a : State) → r ≡ Go c a → 3 * a .left + weight (top c ∷ stackOf (a .depth) w′) < 3 * s .left + weight (top h ∷ stackOf (s .depth) w)
+        pub going-less : (c : Hand) (a : State) → r ≡ Go a c → 3 * a .left + weight (top c ∷ stackOf (a .depth) w′) < 3 * s .left + weight (top h ∷ stackOf (s .depth) w)
         going-less c a e = let t = rw e at reach in t .5
+
+        -- what is used goes into a word
+        pub done-small : (a : State) → r ≡ Done a → (a .used ≤ 65536) × (a .marks ≤ 4096)
+        done-small a e =
+            let q = rw e at (p .turning limit) in
+            (omega (arith, q .used, eo, g .start .room), omega (arith, q .marks, ee, g .start .slots))
 
         pub laid-done : (a : State) → r ≡ Done a → Laid T tx out₀ ev₀ W limit N (record { answer = 0; place = record { 0 = 0 }; left = a .left; used = a .used; marks = a .marks }) out′ ev′
         unfolding run

@@ -40,7 +40,7 @@ pub record Rising (ev₀ w : List ℕ) (s₀ : State) (ev : List ℕ) (s : State
   pub used : s .used ≡ s₀ .used
   pub said : (L : Limits) (out : List ℕ) (N : ℕ) → L .slots ≡ length ev₀ / 3 → s₀ .used ≤ length out → Stacked N (s₀ .used) (s₀ .marks) (stackOf (s₀ .depth) w) → Stacked N (s .used) (s .marks) (stackOf (s .depth) w) × (leads L s out ev w ≡ leads L s₀ out ev₀ w)
 
-pub rise-start : (ev w : List ℕ) (s : State) → (s .depth ≤ 1024) × (8192 ≤ length w) × (s .marks * 3 ≤ length ev) × (length ev ≤ 12290) → Rising ev w s ev s
+pub rise-start : (ev w : List ℕ) (s : State) → (s .depth ≤ 1024) × (8192 ≤ length w) × (s .marks * 3 ≤ length ev) × (length ev ≤ 12290) × (s .used ≤ 65536) → Rising ev w s ev s
 rise-start ev w s h =
     record { depth = h .0; area = h .1; slots = h .3; marks = h .2; long = refl; used = refl; said = λ L out N e le st. (st, refl) }
 
@@ -48,7 +48,7 @@ flag-set : (o : ℕ) → (o ≡ 0 → ⊥) → flagOf o ≡ true
 flag-set zero h = absurd (h refl)
 flag-set (suc o) h = refl
 
-pub go-is-not-done : (c : Hand) (s q : State) → Go c s ≡ Done q → q .depth ≡ 0
+pub go-is-not-done : (c : Hand) (s q : State) → Go s c ≡ Done q → q .depth ≡ 0
 go-is-not-done c s q e = let z : _≡_ {A = ℕ} 0 1 = cc in absurd (omega arith)
 
 pub stop-is-not-done : (a left : ℕ) (n : NodeNo) (q : State) → Stop a n left ≡ Done q → q .depth ≡ 0
@@ -77,7 +77,7 @@ module _ (ev₀ w : List ℕ) (s₀ : State) (ev : List ℕ) (s : State) (h : Ri
     abbrev d : ℕ
     d = s .depth - 1
 
-    pub rise-node : (c : Hand) → getD w (d * 4 + 3) 0 ≡ 0 → HandAt w d c → TakenUp s₀ ev₀ w (Go c (lower s (s .marks) (s .over))) ev
+    pub rise-node : (c : Hand) → getD w (d * 4 + 3) 0 ≡ 0 → HandAt w d c → TakenUp s₀ ev₀ w (Go (lower s (s .marks) (s .over)) c) ev
     unfolding takeUp
     rise-node c t p =
         record {
@@ -87,7 +87,7 @@ module _ (ev₀ w : List ℕ) (s₀ : State) (ev : List ℕ) (s : State) (h : Ri
           empty = λ q e. go-is-not-done c _ q e;
         }
 
-    pub rise-give : (c : Hand) (v : SavedWords) (q : State) → getD w (d * 4 + 3) 0 ≡ 1 → (s .over ≡ 0 → ⊥) → HandAt w d c → SavedAt w d v → q ≡ restoredOf (s .left) v d → TakenUp s₀ ev₀ w (Go c q) ev
+    pub rise-give : (c : Hand) (v : SavedWords) (q : State) → getD w (d * 4 + 3) 0 ≡ 1 → (s .over ≡ 0 → ⊥) → HandAt w d c → SavedAt w d v → q ≡ restoredOf (s .left) v d → TakenUp s₀ ev₀ w (Go q c) ev
     unfolding takeUp
     rise-give c v q t o pc pv eq =
         record {

@@ -34,10 +34,10 @@ module _ (T tx out ev w : List ℕ) (W : ℕ) (s : State) (h : Hand) (q : Ready 
   next limit = turn-next (envOf T tx out ev W limit) (q .N) (q .start .valid) (pageOf s out ev) (suc (s .left)) (flagOf (s .over)) (top h) (stackOf (s .depth) w) (well-of T tx out ev w W limit s h q)
 
   module _ (r : Turn) (out′ ev′ w′ : List ℕ) (p : Visited T tx out ev w W s h r out′ ev′ w′) where
-    pub turn-go : (c : Hand) (a : State) → r ≡ Go c a → TurnedUp T tx out ev w W s h (Go c a) out′ ev′ w′
+    pub turn-go : (c : Hand) (a : State) → r ≡ Go a c → TurnedUp T tx out ev w W s h (Go a c) out′ ev′ w′
     unfolding takeUp
     turn-go c a e =
-        let p′ : Visited T tx out ev w W s h (Go c a) out′ ev′ w′ = rw e at p in
+        let p′ : Visited T tx out ev w W s h (Go a c) out′ ev′ w′ = rw e at p in
         record { turning = λ limit. let t = p′ .turning limit in record { same = ap (upFrom (envOf T tx out ev W limit .limits)) (t .same); used = t .used; marks = t .marks }; empty = λ b f. go-is-not-done c a b f }
 
     pub turn-stop : (a : ℕ) (n : NodeNo) (left : ℕ) → r ≡ Stop a n left → TurnedUp T tx out ev w W s h (Stop a n left) out′ ev′ w′
@@ -55,9 +55,9 @@ module _ (T tx out ev w : List ℕ) (W : ℕ) (s : State) (h : Hand) (q : Ready 
       stacked : Stacked (q .N) (a .used) (a .marks) (stackOf (a .depth) w′)
       stacked = rw (length-take-le (a .used) out′ (done .turning 0 .used), length-events (a .marks) ev′) at (well .stack)
 
-      pub done-ready : length w′ ≡ length w → (a .depth ≤ 1024) × (8192 ≤ length w′) × (a .marks * 3 ≤ length ev′) × (length ev′ ≤ 12290)
-      done-ready lw =
-          (omega (arith, stacked-length (q .N) (a .used) (a .marks) (stackOf (a .depth) w′) stacked, length-stack (a .depth) w′, q .start .small), omega (arith, q .start .area), done .turning 0 .marks, omega (arith, q .start .slots))
+      pub done-ready : length out′ ≡ length out → length w′ ≡ length w → (a .depth ≤ 1024) × (8192 ≤ length w′) × (a .marks * 3 ≤ length ev′) × (length ev′ ≤ 12290) × (a .used ≤ 65536)
+      done-ready lo lw =
+          (omega (arith, stacked-length (q .N) (a .used) (a .marks) (stackOf (a .depth) w′) stacked, length-stack (a .depth) w′, q .start .small), omega (arith, q .start .area), done .turning 0 .marks, omega (arith, q .start .slots), omega (arith, done .turning 0 .used, lo, q .start .room))
 
       pub turn-done : (r′ : Turn) (ev″ : List ℕ) → TakenUp a ev′ w′ r′ ev″ → TurnedUp T tx out ev w W s h r′ out′ ev″ w′
       turn-done r′ ev″ u =

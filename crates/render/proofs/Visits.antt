@@ -91,21 +91,21 @@ module _ (T tx out ev w : List ℕ) (W : ℕ) (s : State) (h : Hand) (q : Ready 
   -- a child goes on in hand, with an indentation
   visit-child : (k : ℕ) (c : Hand) → getD T (n * 4) 0 ≡ k
       → ((limit : ℕ) → on (pageOf s out ev) (s .left) (flagOf (s .over)) (top c ∷ stackOf (s .depth) w) ≡ leads k limit)
-      → Visited T tx out ev w W s h (Go c s) out ev w
-  visit-child k c e is = visit-by k (Go c s) out ev w e (λ limit. record { same = is limit; used = q .used; marks = q .marks })
+      → Visited T tx out ev w W s h (Go s c) out ev w
+  visit-child k c e is = visit-by k (Go s c) out ev w e (λ limit. record { same = is limit; used = q .used; marks = q .marks })
 
-  pub visit-broken : (c : Hand) → getD T (n * 4) 0 ≡ 3 → h .mode .0 ≡ 0 → c ≡ handOf (getD T (n * 4 + 1) 0) (h .indent .0) (h .mode .0) → Visited T tx out ev w W s h (Go c s) out ev w
+  pub visit-broken : (c : Hand) → getD T (n * 4) 0 ≡ 3 → h .mode .0 ≡ 0 → c ≡ handOf (getD T (n * 4 + 1) 0) (h .indent .0) (h .mode .0) → Visited T tx out ev w W s h (Go s c) out ev w
   visit-broken c e z ec = visit-child 3 c e (λ limit. rw (ec, z))
 
-  pub visit-flat : (c : Hand) → getD T (n * 4) 0 ≡ 3 → (h .mode .0 ≡ 0 → ⊥) → c ≡ handOf (getD T (n * 4 + 2) 0) (h .indent .0) (h .mode .0) → Visited T tx out ev w W s h (Go c s) out ev w
+  pub visit-flat : (c : Hand) → getD T (n * 4) 0 ≡ 3 → (h .mode .0 ≡ 0 → ⊥) → c ≡ handOf (getD T (n * 4 + 2) 0) (h .indent .0) (h .mode .0) → Visited T tx out ev w W s h (Go s c) out ev w
   visit-flat c e z ec = visit-child 3 c e (λ limit. rw (ec, flat-mode (h .mode .0) z))
 
   pub visit-nest : (i : Indent) → getD T (n * 4) 0 ≡ 4 → i .0 ≡ nested (wayOf (getD T (n * 4 + 3) 0)) (getD T (n * 4 + 2) 0) (h .indent .0)
-      → Visited T tx out ev w W s h (Go (record { node = record { 0 = getD T (n * 4 + 1) 0 }; indent = i; mode = h .mode }) s) out ev w
+      → Visited T tx out ev w W s h (Go s (record { node = record { 0 = getD T (n * 4 + 1) 0 }; indent = i; mode = h .mode })) out ev w
   visit-nest i e ei = visit-child 4 _ e (λ limit. rw ei)
 
   pub visit-align : (i : Indent) → getD T (n * 4) 0 ≡ 9 → i .0 ≡ s .column .0
-      → Visited T tx out ev w W s h (Go (record { node = record { 0 = getD T (n * 4 + 1) 0 }; indent = i; mode = h .mode }) s) out ev w
+      → Visited T tx out ev w W s h (Go s (record { node = record { 0 = getD T (n * 4 + 1) 0 }; indent = i; mode = h .mode })) out ev w
   visit-align i e ei = visit-child 9 _ e (λ limit. rw ei)
 
   -- a function that writes the output alone: Hardline, Text

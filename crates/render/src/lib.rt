@@ -50,19 +50,19 @@ fn visit(
         1 => lay::lay_append(work, s, hand, a, b),
         2 => lay::lay_group(table, work, width, s, hand, a),
         3 => if mode.0 == 0 {
-            Turn::Go(lay::child_of(hand, a), s)
+            Turn::Go(s, lay::child_of(hand, a))
         } else {
-            Turn::Go(lay::child_of(hand, b), s)
+            Turn::Go(s, lay::child_of(hand, b))
         },
         4 => {
             let indent = lay::nest_by(own, b, c);
             Turn::Go(
+                s,
                 Hand {
                     node: NodeNo(a),
                     indent,
                     mode,
                 },
-                s,
             )
         }
         5 => lay::lay_hardline(out, work, s, own),
@@ -73,12 +73,12 @@ fn visit(
             let column = s.column;
             let indent = column.to_indent();
             Turn::Go(
+                s,
                 Hand {
                     node: NodeNo(a),
                     indent,
                     mode,
                 },
-                s,
             )
         }
         _ => lay::lay_fail(work, s),
@@ -87,7 +87,7 @@ fn visit(
 
 // A node is done: ends are taken up, until a node goes on or nothing waits.
 fn take_up(events: &mut [u32], work: &[u32], state: State) -> Turn
-    requires { ⌜ (state .depth ≤ 1024) × (8192 ≤ length (now work)) × (state .marks * 3 ≤ length (now events)) × (length (now events) ≤ 12290) ⌝ }
+    requires { ⌜ (state .depth ≤ 1024) × (8192 ≤ length (now work)) × (state .marks * 3 ≤ length (now events)) × (length (now events) ≤ 12290) × (state .used ≤ 65536) ⌝ }
     ensures { λ r. ⌜ TakenUp state (now (events .entry)) (now (work .entry)) r (now (events .exit)) ⌝ }
 {
     let mut s = state;
@@ -96,12 +96,12 @@ fn take_up(events: &mut [u32], work: &[u32], state: State) -> Turn
         let tag = work[d * 4 + 3];
         if tag == waiting::NODE {
             s.depth = d;
-            return Turn::Go(waiting::hand_at(work, d), s);
+            return Turn::Go(s, waiting::hand_at(work, d));
         }
         if tag == waiting::TRIAL {
             let saved = waiting::saved_at(work, d);
             if s.over != 0 {
-                return Turn::Go(waiting::hand_at(work, d), lay::restored(s, saved, d));
+                return Turn::Go(lay::restored(s, saved, d), waiting::hand_at(work, d));
             }
             s.over = saved.over;
         } else {
@@ -130,7 +130,7 @@ fn turn(
     ensures { λ r. ⌜ TurnedUp (now (table .entry)) (now (text .entry)) (now (out .entry)) (now (events .entry)) (now (work .entry)) width s hand r (now (out .exit)) (now (events .exit)) (now (work .exit)) ⌝ }
 {
     match visit(table, text, out, events, work, width, s, hand) {
-        Turn::Go(next, on) => Turn::Go(next, on),
+        Turn::Go(on, next) => Turn::Go(on, next),
         Turn::Done(on) => take_up(events, work, on),
         Turn::Stop(answer, place, left) => Turn::Stop(answer, place, left),
     }
@@ -157,9 +157,9 @@ pub fn best(
     };
     let mut s = State {
         column: Column(0),
+        left: limit,
         used: 0,
         marks: 0,
-        left: limit,
         over: 0,
         depth: 0,
     };
@@ -176,7 +176,7 @@ pub fn best(
         }
         s.left = s.left - 1;
         match turn(table, text, out, events, work, width, s, hand) {
-            Turn::Go(next, on) => {
+            Turn::Go(on, next) => {
                 hand = next;
                 s = on;
             }
@@ -185,8 +185,8 @@ pub fn best(
                     answer: 0,
                     place: NodeNo(0),
                     left: on.left,
-                    used: on.used,
-                    marks: on.marks,
+                    used: on.used as u32,
+                    marks: on.marks as u32,
                 };
             }
             Turn::Stop(answer, place, left) => {

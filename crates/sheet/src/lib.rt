@@ -98,7 +98,7 @@ pub fn layout(
     let words = (report.marks as usize) * 3;
     buffer::zero_bytes_from(out, used);
     buffer::zero_words_from(events, words);
-    buffer::clear_words(work);
+    buffer::clear_dirty_words(work);
     report
 }
 

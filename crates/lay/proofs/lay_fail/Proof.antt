@@ -17,20 +17,20 @@ sub-saved-at c = search needs
 saved-at-requires : tie.Need-saved-at-requires
 saved-at-requires c κs = search needs
 
-sub-hand-at : tie.Need-sub-hand-at
-sub-hand-at c = search needs
-
-hand-at-requires : tie.Need-hand-at-requires
-hand-at-requires c κs = search needs
-
 sub-restored : tie.Need-sub-restored
 sub-restored c = search needs
 
 restored-requires : tie.Need-restored-requires
 restored-requires c κs = search needs
 
+sub-hand-at : tie.Need-sub-hand-at
+sub-hand-at c = search needs
+
+hand-at-requires : tie.Need-hand-at-requires
+hand-at-requires c κs = search needs
+
 returns-2 : tie.Need-returns-2
-returns-2 c = fail-some (c .before .before .before .before .before .before .args .s) _ _ _ _ _ (c .before .before .before .before .nearest .ensures) (c .before .before .before .if1 .left) (c .before .hand-at .ensures) (c .before .before .saved-at .ensures) (c .restored .ensures)
+returns-2 c = fail-some (c .before .before .before .before .before .before .args .s) _ _ _ _ _ (c .before .before .before .before .nearest .ensures) (c .before .before .before .if1 .left) (c .hand-at .ensures) (c .before .before .saved-at .ensures) (c .before .restored .ensures)
 
 pub lay-fail-spec : {M : Type 1} → statement M
 lay-fail-spec =
@@ -40,8 +40,8 @@ lay-fail-spec =
     returns
     sub-saved-at
     saved-at-requires
-    sub-hand-at
-    hand-at-requires
     sub-restored
     restored-requires
+    sub-hand-at
+    hand-at-requires
     returns-2)

@@ -13,34 +13,31 @@ use Prim.Native.Nat.{_+_}
 use Rattle.lay.proofs.lay_text.Statement.{statement}
 use Rattle.lay.proofs.lay_text.Tie as tie
 
-cast-used : tie.Need-cast-used
-cast-used c = search needs
-
 sub-if1 : tie.Need-sub-if1
 sub-if1 c = search needs
 
 returns : tie.Need-returns
-returns c = let s = c .before .before .before .before in put-no (s .args .s) _ _ (s .args .len) (λ p. p .column + s .args .columns) (simp (length-take, length-drop) (omega arith)) (omega arith) _ (omega arith)
+returns c = let s = c .before .before .before in put-no (s .args .s) _ _ (s .args .len) (λ p. p .column + s .args .columns) (simp (length-take, length-drop) (omega arith)) (omega arith) _ (omega arith)
 
-copy-bytes-requires : tie.Need-copy-bytes-requires
-copy-bytes-requires c κs = search needs
+copy-over-requires : tie.Need-copy-over-requires
+copy-over-requires c κs = search needs
 
 add-end : tie.Need-add-end
 add-end c = search needs
 
-add-t21 : tie.Need-add-t21
-add-t21 c = search needs
+add-t13 : tie.Need-add-t13
+add-t13 c = search needs
 
 same-length : tie.Need-same-length
 same-length c = search needs
 
 returns-2 : tie.Need-returns-2
-returns-2 c = let s = c .before .before .before .before .before .before .before .before .before .before .before in
-    let eo : flagOf (c .before .if2 .over) ≡ flagOf (s .args .s .over) || ltb (s .args .width) (s .args .s .column .0 + s .args .columns) =
-    ⊎-elim (λ v. rw (v .1) (over-set (s .args .s .over) _ _ (v .0 .taken))) (λ v. rw (v .1) (over-kept (s .args .s .over) _ _ (v .0 .left))) (c .before .if2 .came) in
-    put-yes (s .args .s) _ _ (s .args .len) (λ p. p .column + s .args .columns) (simp (length-take, length-drop) (omega arith)) (omega arith) _ _ _ _ _ (omega arith) (c .before .before .before .before .before .copy-bytes .ensures) (c .before .before .before .before .before .copy-bytes .kept .1 .1 .1 .0) (λ ev. refl) refl eo
+returns-2 c = let s = c .before .before .before .before .before .before .before .before .before in
+    let eo : flagOf (c .if2 .over) ≡ flagOf (s .args .s .over) || ltb (s .args .width) (s .args .s .column .0 + s .args .columns) =
+    ⊎-elim (λ v. rw (v .1) (over-set (s .args .s .over) _ _ (v .0 .taken))) (λ v. rw (v .1) (over-kept (s .args .s .over) _ _ (v .0 .left))) (c .if2 .came) in
+    put-yes (s .args .s) _ _ (s .args .len) (λ p. p .column + s .args .columns) (simp (length-take, length-drop) (omega arith)) (omega arith) _ _ _ _ _ (omega arith) (c .before .before .before .before .copy-over .ensures .0) (c .before .before .before .before .copy-over .ensures .1) (λ ev. refl) refl eo
 
 pub lay-text-spec : {M : Type 1} → statement M
 lay-text-spec =
     tie.close
-    (tie.spec cast-used sub-if1 returns copy-bytes-requires add-end add-t21 same-length returns-2)
+    (tie.spec sub-if1 returns copy-over-requires add-end add-t13 same-length returns-2)

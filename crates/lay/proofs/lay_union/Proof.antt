@@ -8,6 +8,12 @@ use Rattle.lay.proofs.lay_union.Tie as tie
 child-of-requires : tie.Need-child-of-requires
 child-of-requires c κs = search needs
 
+cast-t13 : tie.Need-cast-t13
+cast-t13 c = search needs
+
+cast-t14 : tie.Need-cast-t14
+cast-t14 c = search needs
+
 push-trial-requires : tie.Need-push-trial-requires
 push-trial-requires c κs = search needs
 
@@ -21,13 +27,15 @@ same-length : tie.Need-same-length
 same-length c = search needs
 
 returns : tie.Need-returns
-returns c = let s = c .before .before .before .before .before .before .before .before in union-kept (s .args .s) (s .args .work .now) _ _ _ _ _ _ (c .child-of2 .ensures) (rw (c .before .before .before .before .child-of .ensures) at (c .before .before .before .push-trial .ensures))
+returns c = let s = c .before .before .before .before .before .before .before .before .before .before in union-kept (s .args .s) (s .args .work .now) _ _ _ _ _ _ (c .child-of2 .ensures) (rw (c .before .before .before .before .before .before .child-of .ensures) at (c .before .before .before .push-trial .ensures))
 
 pub lay-union-spec : {M : Type 1} → statement M
 lay-union-spec =
     tie.close
     (tie.spec
     child-of-requires
+    cast-t13
+    cast-t14
     push-trial-requires
     add-next
     child-of-requires-2

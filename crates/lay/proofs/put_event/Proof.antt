@@ -20,6 +20,9 @@ sub-if1 c = search needs
 returns : tie.Need-returns
 returns c = record { fits = sym (le-ltb (c .before .args .marks) (length (c .before .args .events .now) / 3) (omega arith)); room = λ e. absurd (false≢true e); noted = λ e. absurd (false≢true e) }
 
+cast-events : tie.Need-cast-events
+cast-events c = search needs
+
 mul-events : tie.Need-mul-events
 mul-events c = search needs
 
@@ -57,6 +60,7 @@ put-event-spec =
     mul-at
     sub-if1
     returns
+    cast-events
     mul-events
     slice-write-events
     add-events

@@ -3,7 +3,7 @@
 use Rattle.machine.specs.Well.{weight}
 use Rattle.waiting.specs.Stack.{stackOf}
 use Rattle.lay.specs.State.{top}
-use Rattle.render.proofs.Going.{Going, going-start, going-ready, going-on, going-less, laid-due, laid-done, laid-stop}
+use Rattle.render.proofs.Going.{Going, going-start, going-ready, going-on, going-less, laid-due, done-small, laid-done, laid-stop}
 use borrow.Author.Needs.{needs}
 use native.Mathlib.Omega.{arith}
 use mathlib.Core.Path.{_∙_}
@@ -42,29 +42,35 @@ sub-s c = omega (arith, c .before .if1 .left)
 turn-requires : tie.Need-turn-requires Inv-loop μ-loop
 turn-requires c κs = going-ready _ _ _ _ _ _ _ _ _ _ _ _ _ (c .before .before .before .before .before .before .loop .inv) (c .before .before .before .before .if1 .left)
 
-enum-known-next : tie.Need-enum-known-next Inv-loop μ-loop
-enum-known-next c = search needs
-
-loop-less : tie.Need-loop-less Inv-loop μ-loop
-loop-less c = going-less _ _ _ _ _ _ _ _ _ _ _ _ _ (c .before .before .before .before .before .before .before .before .before .before .before .before .before .before .before .before .loop .inv) (c .before .before .before .before .before .before .before .before .before .before .before .before .before .before .if1 .left) _ _ _ _ (c .before .before .before .before .before .before .before .before .before .turn .ensures) (c .before .before .before .before .before .before .before .before .before .turn .kept .1 .1 .0) (c .before .before .before .before .before .before .before .before .before .turn .kept .1 .1 .1 .0) (c .before .before .before .before .before .before .before .before .before .turn .kept .1 .1 .1 .1 .0) _ _ (c .before .next .given .1)
-
-loop-again : tie.Need-loop-again Inv-loop μ-loop
-loop-again c = going-on _ _ _ _ _ _ _ _ _ _ _ _ _ (c .before .before .before .before .before .before .before .before .before .before .before .before .before .before .before .before .loop .inv) (c .before .before .before .before .before .before .before .before .before .before .before .before .before .before .if1 .left) _ _ _ _ (c .before .before .before .before .before .before .before .before .before .turn .ensures) (c .before .before .before .before .before .before .before .before .before .turn .kept .1 .1 .0) (c .before .before .before .before .before .before .before .before .before .turn .kept .1 .1 .1 .0) (c .before .before .before .before .before .before .before .before .before .turn .kept .1 .1 .1 .1 .0) _ _ (c .before .next .given .1)
-
 enum-known-on : tie.Need-enum-known-on Inv-loop μ-loop
 enum-known-on c = search needs
 
+loop-less : tie.Need-loop-less Inv-loop μ-loop
+loop-less c = going-less _ _ _ _ _ _ _ _ _ _ _ _ _ (c .before .before .before .before .before .before .before .before .before .before .before .before .before .before .before .before .loop .inv) (c .before .before .before .before .before .before .before .before .before .before .before .before .before .before .if1 .left) _ _ _ _ (c .before .before .before .before .before .before .before .before .before .turn .ensures) (c .before .before .before .before .before .before .before .before .before .turn .kept .1 .1 .0) (c .before .before .before .before .before .before .before .before .before .turn .kept .1 .1 .1 .0) (c .before .before .before .before .before .before .before .before .before .turn .kept .1 .1 .1 .1 .0) _ _ (c .before .on .given .1)
+
+loop-again : tie.Need-loop-again Inv-loop μ-loop
+loop-again c = going-on _ _ _ _ _ _ _ _ _ _ _ _ _ (c .before .before .before .before .before .before .before .before .before .before .before .before .before .before .before .before .loop .inv) (c .before .before .before .before .before .before .before .before .before .before .before .before .before .before .if1 .left) _ _ _ _ (c .before .before .before .before .before .before .before .before .before .turn .ensures) (c .before .before .before .before .before .before .before .before .before .turn .kept .1 .1 .0) (c .before .before .before .before .before .before .before .before .before .turn .kept .1 .1 .1 .0) (c .before .before .before .before .before .before .before .before .before .turn .kept .1 .1 .1 .1 .0) _ _ (c .before .on .given .1)
+
+enum-known-on-2 : tie.Need-enum-known-on-2 Inv-loop μ-loop
+enum-known-on-2 c = search needs
+
+cast-t32 : tie.Need-cast-t32 Inv-loop μ-loop
+cast-t32 c = omega (arith, done-small _ _ _ _ _ _ _ _ _ _ _ _ _ (c .before .before .before .before .before .before .before .before .before .before .before .before .before .before .before .before .before .loop .inv) (c .before .before .before .before .before .before .before .before .before .before .before .before .before .before .before .if1 .left) _ _ _ _ (c .before .before .before .before .before .before .before .before .before .before .turn .ensures) (c .before .before .before .before .before .before .before .before .before .before .turn .kept .1 .1 .0) (c .before .before .before .before .before .before .before .before .before .before .turn .kept .1 .1 .1 .0) (c .before .before .before .before .before .before .before .before .before .before .turn .kept .1 .1 .1 .1 .0) _ (c .before .before .on2 .given .1) .0)
+
+cast-t33 : tie.Need-cast-t33 Inv-loop μ-loop
+cast-t33 c = omega (arith, done-small _ _ _ _ _ _ _ _ _ _ _ _ _ (c .before .before .before .before .before .before .before .before .before .before .before .before .before .before .before .before .before .before .loop .inv) (c .before .before .before .before .before .before .before .before .before .before .before .before .before .before .before .before .if1 .left) _ _ _ _ (c .before .before .before .before .before .before .before .before .before .before .before .turn .ensures) (c .before .before .before .before .before .before .before .before .before .before .before .turn .kept .1 .1 .0) (c .before .before .before .before .before .before .before .before .before .before .before .turn .kept .1 .1 .1 .0) (c .before .before .before .before .before .before .before .before .before .before .before .turn .kept .1 .1 .1 .1 .0) _ (c .before .before .before .on2 .given .1) .1)
+
 same-length-4 : tie.Need-same-length-4 Inv-loop μ-loop
-same-length-4 c = c .before .before .before .before .before .before .before .before .before .turn .kept .1 .1 .0 ∙ c .before .before .before .before .before .before .before .before .before .before .before .before .before .before .before .before .loop .inv .outs
+same-length-4 c = c .before .before .before .before .before .before .before .before .before .before .before .turn .kept .1 .1 .0 ∙ c .before .before .before .before .before .before .before .before .before .before .before .before .before .before .before .before .before .before .loop .inv .outs
 
 same-length-5 : tie.Need-same-length-5 Inv-loop μ-loop
-same-length-5 c = c .before .before .before .before .before .before .before .before .before .turn .kept .1 .1 .1 .0 ∙ c .before .before .before .before .before .before .before .before .before .before .before .before .before .before .before .before .loop .inv .evs
+same-length-5 c = c .before .before .before .before .before .before .before .before .before .before .before .turn .kept .1 .1 .1 .0 ∙ c .before .before .before .before .before .before .before .before .before .before .before .before .before .before .before .before .before .before .loop .inv .evs
 
 same-length-6 : tie.Need-same-length-6 Inv-loop μ-loop
-same-length-6 c = c .before .before .before .before .before .before .before .before .before .turn .kept .1 .1 .1 .1 .0 ∙ c .before .before .before .before .before .before .before .before .before .before .before .before .before .before .before .before .loop .inv .works
+same-length-6 c = c .before .before .before .before .before .before .before .before .before .before .before .turn .kept .1 .1 .1 .1 .0 ∙ c .before .before .before .before .before .before .before .before .before .before .before .before .before .before .before .before .before .before .loop .inv .works
 
 returns-2 : tie.Need-returns-2 Inv-loop μ-loop
-returns-2 c = laid-done _ _ _ _ _ _ _ _ _ _ _ _ _ (c .before .before .before .before .before .before .before .before .before .before .before .before .before .before .before .before .loop .inv) (c .before .before .before .before .before .before .before .before .before .before .before .before .before .before .if1 .left) _ _ _ _ (c .before .before .before .before .before .before .before .before .before .turn .ensures) (c .before .before .before .before .before .before .before .before .before .turn .kept .1 .1 .0) (c .before .before .before .before .before .before .before .before .before .turn .kept .1 .1 .1 .0) (c .before .before .before .before .before .before .before .before .before .turn .kept .1 .1 .1 .1 .0) _ (c .before .on .given .1)
+returns-2 c = laid-done _ _ _ _ _ _ _ _ _ _ _ _ _ (c .before .before .before .before .before .before .before .before .before .before .before .before .before .before .before .before .before .before .loop .inv) (c .before .before .before .before .before .before .before .before .before .before .before .before .before .before .before .before .if1 .left) _ _ _ _ (c .before .before .before .before .before .before .before .before .before .before .before .turn .ensures) (c .before .before .before .before .before .before .before .before .before .before .before .turn .kept .1 .1 .0) (c .before .before .before .before .before .before .before .before .before .before .before .turn .kept .1 .1 .1 .0) (c .before .before .before .before .before .before .before .before .before .before .before .turn .kept .1 .1 .1 .1 .0) _ (c .before .before .before .on2 .given .1)
 
 enum-known-answer : tie.Need-enum-known-answer Inv-loop μ-loop
 enum-known-answer c = search needs
@@ -95,10 +101,12 @@ best-spec =
     returns
     sub-s
     turn-requires
-    enum-known-next
+    enum-known-on
     loop-less
     loop-again
-    enum-known-on
+    enum-known-on-2
+    cast-t32
+    cast-t33
     same-length-4
     same-length-5
     same-length-6

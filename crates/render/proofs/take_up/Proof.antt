@@ -44,17 +44,17 @@ returns c = rise-node _ _ _ _ _ (c .before .before .before .before .before .befo
 saved-at-requires : tie.Need-saved-at-requires Inv-loop μ-loop
 saved-at-requires c κs = let r = c .before .before .before .before .before .before .loop .inv in (omega (arith, r .depth, c .before .before .before .before .if1 .taken), r .area)
 
-hand-at-requires-2 : tie.Need-hand-at-requires-2 Inv-loop μ-loop
-hand-at-requires-2 c κs = let r = c .before .before .before .before .before .before .before .before .before .loop .inv in (omega (arith, r .depth, c .before .before .before .before .before .before .before .if1 .taken), r .area)
-
 restored-requires : tie.Need-restored-requires Inv-loop μ-loop
 restored-requires c κs = search needs
+
+hand-at-requires-2 : tie.Need-hand-at-requires-2 Inv-loop μ-loop
+hand-at-requires-2 c κs = let r = c .before .before .before .before .before .before .before .before .before .before .loop .inv in (omega (arith, r .depth, c .before .before .before .before .before .before .before .before .if1 .taken), r .area)
 
 same-length-2 : tie.Need-same-length-2 Inv-loop μ-loop
 same-length-2 c = c .before .before .before .before .before .before .before .before .before .before .before .loop .inv .long
 
 returns-2 : tie.Need-returns-2 Inv-loop μ-loop
-returns-2 c = rise-give _ _ _ _ _ (c .before .before .before .before .before .before .before .before .before .before .before .loop .inv) (c .before .before .before .before .before .before .before .before .before .if1 .taken) _ _ _ (c .before .before .before .before .before .if3 .taken) (c .before .before .if4 .taken) (c .before .hand-at2 .ensures) (c .before .before .before .before .saved-at .ensures) (c .restored .ensures)
+returns-2 c = rise-give _ _ _ _ _ (c .before .before .before .before .before .before .before .before .before .before .before .loop .inv) (c .before .before .before .before .before .before .before .before .before .if1 .taken) _ _ _ (c .before .before .before .before .before .if3 .taken) (c .before .before .if4 .taken) (c .hand-at2 .ensures) (c .before .before .before .before .saved-at .ensures) (c .before .restored .ensures)
 
 mul-put-event : tie.Need-mul-put-event Inv-loop μ-loop
 mul-put-event c = let r = c .before .before .before .before .before .before .before .loop .inv in omega (arith, r .depth, r .area, c .before .before .before .before .before .if1 .taken)
@@ -69,7 +69,7 @@ shared-slice-read-put-event : tie.Need-shared-slice-read-put-event Inv-loop μ-l
 shared-slice-read-put-event c = let r = c .before .before .before .before .before .before .before .before .loop .inv in omega (arith, r .depth, r .area, c .before .before .before .before .before .before .if1 .taken)
 
 put-event-requires : tie.Need-put-event-requires Inv-loop μ-loop
-put-event-requires c κs = let r = c .before .before .before .before .before .before .before .before .loop .inv in (r .marks, r .slots)
+put-event-requires c κs = let r = c .before .before .before .before .before .before .before .before .loop .inv in (r .marks, r .slots, omega (arith, r .used, c .before .before .before .before .before .before .before .before .before .before .before .pre .4))
 
 mul-t27 : tie.Need-mul-t27 Inv-loop μ-loop
 mul-t27 c = let r = c .before .before .before .before .before .before .before .before .before .before .before .before .loop .inv in omega (arith, r .depth, r .area, c .before .before .before .before .before .before .before .before .before .before .if1 .taken)
@@ -123,8 +123,8 @@ take-up-spec =
     same-length
     returns
     saved-at-requires
-    hand-at-requires-2
     restored-requires
+    hand-at-requires-2
     same-length-2
     returns-2
     mul-put-event

@@ -9,14 +9,14 @@ use Rattle.render.proofs.turn.Tie as tie
 visit-requires : tie.Need-visit-requires
 visit-requires c κs = search needs
 
-enum-known-next : tie.Need-enum-known-next
-enum-known-next c = search needs
-
 enum-known-on : tie.Need-enum-known-on
 enum-known-on c = search needs
 
+enum-known-on-2 : tie.Need-enum-known-on-2
+enum-known-on-2 c = search needs
+
 take-up-requires : tie.Need-take-up-requires
-take-up-requires c κs = let s = c .before .before .before .before .before .before .before .before .before .before .before .before .before .before .before .before .before .before .before .before in let v = c .before .before .before .before .before .before .before .before .before .before .before .visit in done-ready _ _ _ _ _ _ _ _ (s .pre) _ _ _ _ (v .ensures) _ (c .before .before .before .on .given .1) (v .kept .1 .1 .1 .0) (v .kept .1 .1 .1 .1 .0)
+take-up-requires c κs = let s = c .before .before .before .before .before .before .before .before .before .before .before .before .before .before .before .before .before .before .before .before in let v = c .before .before .before .before .before .before .before .before .before .before .before .visit in done-ready _ _ _ _ _ _ _ _ (s .pre) _ _ _ _ (v .ensures) _ (c .before .before .before .on2 .given .1) (v .kept .1 .1 .1 .0) (v .kept .1 .1 .0) (v .kept .1 .1 .1 .1 .0)
 
 enum-known-answer : tie.Need-enum-known-answer
 enum-known-answer c = search needs
@@ -31,7 +31,7 @@ same-length-3 : tie.Need-same-length-3
 same-length-3 c = c .before .before .before .before .before .before .before .before .before .visit .kept .1 .1 .1 .1 .0
 
 returns : tie.Need-returns
-returns c = let s = c .before .before .before .before .before .before .before .before .before .before .before .before .before .before .before .before .before .before in turn-go _ _ _ _ _ _ _ _ (s .pre) _ _ _ _ (c .before .before .before .before .before .before .before .before .before .visit .ensures) _ _ (c .before .next .given .1)
+returns c = let s = c .before .before .before .before .before .before .before .before .before .before .before .before .before .before .before .before .before .before in turn-go _ _ _ _ _ _ _ _ (s .pre) _ _ _ _ (c .before .before .before .before .before .before .before .before .before .visit .ensures) _ _ (c .before .on .given .1)
 
 same-length-4 : tie.Need-same-length-4
 same-length-4 c = c .before .before .before .before .before .before .before .before .before .before .before .before .before .before .visit .kept .1 .1 .0
@@ -43,7 +43,7 @@ same-length-6 : tie.Need-same-length-6
 same-length-6 c = c .before .before .before .before .before .before .before .before .before .before .before .before .before .before .visit .kept .1 .1 .1 .1 .0
 
 returns-2 : tie.Need-returns-2
-returns-2 c = let s = c .before .before .before .before .before .before .before .before .before .before .before .before .before .before .before .before .before .before .before .before .before .before .before in let v = c .before .before .before .before .before .before .before .before .before .before .before .before .before .before .visit in turn-done _ _ _ _ _ _ _ _ (s .pre) _ _ _ _ (v .ensures) _ (c .before .before .before .before .before .before .on .given .1) (v .kept .1 .1 .1 .0) _ _ (c .before .before .take-up .ensures)
+returns-2 c = let s = c .before .before .before .before .before .before .before .before .before .before .before .before .before .before .before .before .before .before .before .before .before .before .before in let v = c .before .before .before .before .before .before .before .before .before .before .before .before .before .before .visit in turn-done _ _ _ _ _ _ _ _ (s .pre) _ _ _ _ (v .ensures) _ (c .before .before .before .before .before .before .on2 .given .1) (v .kept .1 .1 .1 .0) _ _ (c .before .before .take-up .ensures)
 
 same-length-7 : tie.Need-same-length-7
 same-length-7 c = c .before .before .before .before .before .before .before .before .before .visit .kept .1 .1 .0
@@ -62,8 +62,8 @@ turn-spec =
     tie.close
     (tie.spec
     visit-requires
-    enum-known-next
     enum-known-on
+    enum-known-on-2
     take-up-requires
     enum-known-answer
     same-length

@@ -69,10 +69,10 @@ lay-text-requires : tie.Need-lay-text-requires
 lay-text-requires c κs = let s = c .before .before .before .before .before .before .before .before .before .before .before .before .before .before in text-fits _ _ _ _ _ _ _ (s .args .hand) (s .pre) (c .before .match .keys7)
 
 lay-annotated-requires : tie.Need-lay-annotated-requires
-lay-annotated-requires c κs = let s = c .before .before .before .before .before .before .before .before .before .before .before .before .before .before .before in (depth-small _ _ _ _ _ _ _ (s .args .hand) (s .pre), omega (arith, s .pre .start .area), s .pre .marks, s .pre .start .slots)
+lay-annotated-requires c κs = let s = c .before .before .before .before .before .before .before .before .before .before .before .before .before .before .before in (depth-small _ _ _ _ _ _ _ (s .args .hand) (s .pre), omega (arith, s .pre .start .area), s .pre .marks, s .pre .start .slots, omega (arith, s .pre .used, s .pre .start .room))
 
 lay-union-requires : tie.Need-lay-union-requires
-lay-union-requires c κs = let s = c .before .before .before .before .before .before .before .before .before .before .before .before .before .before in (depth-small _ _ _ _ _ _ _ (s .args .hand) (s .pre), omega (arith, s .pre .start .area))
+lay-union-requires c κs = let s = c .before .before .before .before .before .before .before .before .before .before .before .before .before .before in (depth-small _ _ _ _ _ _ _ (s .args .hand) (s .pre), omega (arith, s .pre .start .area), omega (arith, s .pre .used, s .pre .start .room), omega (arith, s .pre .marks, s .pre .start .slots))
 
 to-indent-requires : tie.Need-to-indent-requires
 to-indent-requires c κs = search needs

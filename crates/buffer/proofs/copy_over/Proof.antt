@@ -1,0 +1,68 @@
+-- `buffer::copy_over` meets its contract: of a whole block its first n bytes, or the n bytes alone.
+-- Assumes nothing.
+use borrow.Author.Needs.{needs}
+use native.Mathlib.Omega.{arith}
+use Prim.Native.Nat.{ℕ, _+_, _-_, _≤_}
+use mathlib.Core.List.{List, _++_}
+use lib.ListN.{length, take, drop, length-take, length-drop}
+use lib.Seq.{take-take}
+use borrow.Author.Tests.{leb-true}
+use Rattle.buffer.proofs.Put.{take-put, part-put, length-put}
+use mathlib.Core.Path.{_≡_, ap, _∙_}
+use Rattle.buffer.proofs.copy_over.Statement.{statement}
+use Rattle.buffer.proofs.copy_over.Tie as tie
+
+sub-if2 : tie.Need-sub-if2
+sub-if2 c = search needs
+
+sub-if3 : tie.Need-sub-if3
+sub-if3 c = search needs
+
+copy-block-requires : tie.Need-copy-block-requires
+copy-block-requires c κs =
+    let a = c .before .before .before .before .before .before .args in
+    let in-src : 32 ≤ length (a .src .now) - a .from = leb-true _ _ (c .before .before .if2 .taken) in
+    let in-dst : 32 ≤ length (a .dst .now) - a .at = leb-true _ _ (c .before .if3 .taken) in
+    (omega arith, omega arith)
+
+same-length : tie.Need-same-length
+same-length c = search needs
+
+returns : tie.Need-returns
+returns c =
+    let a = c .before .before .before .before .before .before .before .before .before .args in
+    let in-src : 32 ≤ length (a .src .now) - a .from = leb-true _ _ (c .before .before .before .before .before .if2 .taken) in
+    let in-dst : 32 ≤ length (a .dst .now) - a .at = leb-true _ _ (c .before .before .before .before .if3 .taken) in
+    let l = drop (a .from) (a .src .now) in
+    let there : length (take 32 l) ≡ 32 = simp (length-take, length-drop) (omega arith) in
+    let whole = c .before .before .copy-block .ensures in (
+      ap (take (a .at + a .n)) whole ∙ part-put (a .dst .now) (a .at) (take 32 l) 32 (a .n) there (omega arith) (omega arith) ∙ ap (λ (r : List ℕ). take (a .at) (a .dst .now) ++ r) (take-take (a .n) 32 l (omega arith)),
+      ap length whole ∙ length-put (a .dst .now) (a .at) (take 32 l) 32 there (omega arith),
+    )
+
+copy-bytes-requires : tie.Need-copy-bytes-requires
+copy-bytes-requires c κs = search needs
+
+same-length-2 : tie.Need-same-length-2
+same-length-2 c = search needs
+
+returns-2 : tie.Need-returns-2
+returns-2 c =
+    let a = c .before .before .before .before .before .before .before .args in
+    let l = drop (a .from) (a .src .now) in
+    let there : length (take (a .n) l) ≡ a .n = simp (length-take, length-drop) (omega arith) in
+    let run = c .before .before .copy-bytes .ensures in
+    (ap (take (a .at + a .n)) run ∙ take-put (a .dst .now) (a .at) (take (a .n) l) (a .n) there (omega arith), ap length run ∙ length-put (a .dst .now) (a .at) (take (a .n) l) (a .n) there (omega arith))
+
+pub copy-over-spec : {M : Type 1} → statement M
+copy-over-spec =
+    tie.close
+    (tie.spec
+    sub-if2
+    sub-if3
+    copy-block-requires
+    same-length
+    returns
+    copy-bytes-requires
+    same-length-2
+    returns-2)
