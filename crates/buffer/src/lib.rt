@@ -121,10 +121,10 @@ fn is_clean(words: &[u32], at: usize) -> bool
     ensures { λ r. ⌜ r ≡ allZero (take 128 (drop at (now (words .entry)))) ⌝ }
 {
     let mut clean = true;
-    let mut k = 0;
-    while k < WORDS {
-        clean = clean & (words[at + k] == 0);
-        k += 1;
+    let mut i = 0;
+    while i < WORDS {
+        clean = clean & (words[at + i] == 0);
+        i += 1;
     }
     clean
 }
@@ -133,16 +133,16 @@ fn is_clean(words: &[u32], at: usize) -> bool
 pub fn clear_dirty_words(words: &mut [u32])
     ensures { λ _. ⌜ now (words .exit) ≡ replicate (length (now (words .entry))) 0 ⌝ }
 {
-    let mut w = 0;
-    while w < words.len() {
-        if words.len() - w < WORDS {
-            words[w] = 0;
-            w += 1;
+    let mut at = 0;
+    while at < words.len() {
+        if words.len() - at < WORDS {
+            words[at] = 0;
+            at += 1;
             continue;
         }
-        if !is_clean(words, w) {
-            fill_words(words, w, WORDS, 0);
+        if !is_clean(words, at) {
+            fill_words(words, at, WORDS, 0);
         }
-        w += WORDS;
+        at += WORDS;
     }
 }

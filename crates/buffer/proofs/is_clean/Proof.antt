@@ -1,4 +1,4 @@
--- `buffer::is_clean` meets its contract: so far `clean` says that the first k words of the block are 0.
+-- `buffer::is_clean` meets its contract: so far `clean` says that the first i words of the block are 0.
 -- Assumes nothing.
 use borrow.Author.Needs.{needs}
 use native.Mathlib.Omega.{arith}
@@ -14,10 +14,10 @@ use Rattle.buffer.proofs.is_clean.Statement.{statement}
 use Rattle.buffer.proofs.is_clean.Tie as tie
 
 abbrev Inv-loop : tie.InvT-loop
-Inv-loop words at clean₀ k₀ clean k = (k ≤ 128) × (clean ≡ allZero (take k (drop at words)))
+Inv-loop words at clean₀ i₀ clean i = (i ≤ 128) × (clean ≡ allZero (take i (drop at words)))
 
 abbrev μ-loop : tie.MeasureT-loop
-μ-loop words at clean₀ k₀ clean k = 128 - k
+μ-loop words at clean₀ i₀ clean i = 128 - i
 
 loop-holds : tie.Need-loop-holds Inv-loop μ-loop
 unfolding allZero
@@ -32,8 +32,8 @@ mul-clean c = search needs
 shared-slice-read-clean : tie.Need-shared-slice-read-clean Inv-loop μ-loop
 shared-slice-read-clean c = search needs
 
-add-k : tie.Need-add-k Inv-loop μ-loop
-add-k c = search needs
+add-i : tie.Need-add-i Inv-loop μ-loop
+add-i c = search needs
 
 loop-less : tie.Need-loop-less Inv-loop μ-loop
 loop-less c = search needs
@@ -44,15 +44,15 @@ loop-again c =
     let a = c .before .before .before .args in
     let words = a .words .now in
     let l = drop (a .at) words in
-    let in-l : L .k < length l = simp length-drop (omega arith) in
-    (omega arith, ap (λ (q : Bool). q && eqb (getD words (a .at + L .k) 0) 0) (L .inv .1) ∙ ap (λ (x : ℕ). allZero (take (L .k) l) && eqb x 0) (sym (getD-drop (a .at) words (L .k) 0)) ∙ zero-more l (L .k) in-l)
+    let in-l : L .i < length l = simp length-drop (omega arith) in
+    (omega arith, ap (λ (q : Bool). q && eqb (getD words (a .at + L .i) 0) 0) (L .inv .1) ∙ ap (λ (x : ℕ). allZero (take (L .i) l) && eqb x 0) (sym (getD-drop (a .at) words (L .i) 0)) ∙ zero-more l (L .i) in-l)
 
 returns : tie.Need-returns Inv-loop μ-loop
 returns c =
     let L = c .before .loop in
     let a = c .before .before .args in
-    let e : L .k ≡ 128 = omega arith in
-    L .inv .1 ∙ ap (λ (k : ℕ). allZero (take k (drop (a .at) (a .words .now)))) e
+    let e : L .i ≡ 128 = omega arith in
+    L .inv .1 ∙ ap (λ (n : ℕ). allZero (take n (drop (a .at) (a .words .now)))) e
 
 pub is-clean-spec : {M : Type 1} → statement M
 is-clean-spec =
@@ -64,7 +64,7 @@ is-clean-spec =
     add-clean
     mul-clean
     shared-slice-read-clean
-    add-k
+    add-i
     loop-less
     loop-again
     returns)
