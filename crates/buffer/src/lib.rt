@@ -121,10 +121,10 @@ fn is_clean(words: &[u32], at: usize) -> bool
     ensures { λ r. ⌜ r ≡ allZero (take 128 (drop at (now (words .entry)))) ⌝ }
 {
     let mut clean = true;
-    let mut i = 0;
-    while i < WORDS {
-        clean = clean & (words[at + i] == 0);
-        i += 1;
+    let mut seen = 0;
+    while seen < WORDS {
+        clean = clean & (words[at + seen] == 0);
+        seen += 1;
     }
     clean
 }

@@ -1,4 +1,4 @@
--- `buffer::is_clean` meets its contract: so far `clean` says that the first i words of the block are 0.
+-- `buffer::is_clean` meets its contract: so far `clean` says that the first words seen of the block are 0.
 -- Assumes nothing.
 use borrow.Author.Needs.{needs}
 use native.Mathlib.Omega.{arith}
@@ -14,10 +14,10 @@ use Rattle.buffer.proofs.is_clean.Statement.{statement}
 use Rattle.buffer.proofs.is_clean.Tie as tie
 
 abbrev Inv-loop : tie.InvT-loop
-Inv-loop words at clean₀ i₀ clean i = (i ≤ 128) × (clean ≡ allZero (take i (drop at words)))
+Inv-loop words at clean₀ seen₀ clean seen = (seen ≤ 128) × (clean ≡ allZero (take seen (drop at words)))
 
 abbrev μ-loop : tie.MeasureT-loop
-μ-loop words at clean₀ i₀ clean i = 128 - i
+μ-loop words at clean₀ seen₀ clean seen = 128 - seen
 
 loop-holds : tie.Need-loop-holds Inv-loop μ-loop
 unfolding allZero
@@ -32,8 +32,8 @@ mul-clean c = search needs
 shared-slice-read-clean : tie.Need-shared-slice-read-clean Inv-loop μ-loop
 shared-slice-read-clean c = search needs
 
-add-i : tie.Need-add-i Inv-loop μ-loop
-add-i c = search needs
+add-seen : tie.Need-add-seen Inv-loop μ-loop
+add-seen c = search needs
 
 loop-less : tie.Need-loop-less Inv-loop μ-loop
 loop-less c = search needs
@@ -44,14 +44,14 @@ loop-again c =
     let a = c .before .before .before .args in
     let words = a .words .now in
     let l = drop (a .at) words in
-    let in-l : L .i < length l = simp length-drop (omega arith) in
-    (omega arith, ap (λ (q : Bool). q && eqb (getD words (a .at + L .i) 0) 0) (L .inv .1) ∙ ap (λ (x : ℕ). allZero (take (L .i) l) && eqb x 0) (sym (getD-drop (a .at) words (L .i) 0)) ∙ zero-more l (L .i) in-l)
+    let in-l : L .seen < length l = simp length-drop (omega arith) in
+    (omega arith, ap (λ (q : Bool). q && eqb (getD words (a .at + L .seen) 0) 0) (L .inv .1) ∙ ap (λ (x : ℕ). allZero (take (L .seen) l) && eqb x 0) (sym (getD-drop (a .at) words (L .seen) 0)) ∙ zero-more l (L .seen) in-l)
 
 returns : tie.Need-returns Inv-loop μ-loop
 returns c =
     let L = c .before .loop in
     let a = c .before .before .args in
-    let e : L .i ≡ 128 = omega arith in
+    let e : L .seen ≡ 128 = omega arith in
     L .inv .1 ∙ ap (λ (n : ℕ). allZero (take n (drop (a .at) (a .words .now)))) e
 
 pub is-clean-spec : {M : Type 1} → statement M
@@ -64,7 +64,7 @@ is-clean-spec =
     add-clean
     mul-clean
     shared-slice-read-clean
-    add-i
+    add-seen
     loop-less
     loop-again
     returns)
