@@ -18,7 +18,7 @@ pub struct Load {
 pub fn loads() -> Vec<Load> {
     let load = |name, table, width| Load { name, table, width, room: 16_384, slots: 256 };
     vec![
-        load("chest's test sheet, 60 rows", test_sheet(false), 42),
+        load("test sheet, 55 rows with remarks", test_sheet(false), 42),
         load("the same, a mark on each row", test_sheet(true), 42),
         load("tool chest, 60 rows of groups", chest(60, false), 42),
         load("the same, a mark on each", chest(60, true), 42),
@@ -68,9 +68,6 @@ impl Maker {
 
     /// A row and its remark, ending in a Hardline both ways.
     fn remarked(&mut self, fixed: u32, remark: &str, between: u32, end: u32) -> u32 {
-        if remark.is_empty() {
-            return self.join(&[fixed, end]);
-        }
         let beside = self.text(&format!("  {remark}"));
         let beside = self.join(&[fixed, beside, end]);
         let words: Vec<u32> = pieces(remark).iter().map(|piece| self.text(piece)).collect();
@@ -126,15 +123,15 @@ const REMARKS: [(&str, &str); 7] = [
     ("cracked", "do not use"),
 ];
 
-/// The main job's sample, three times: 60 rows as crate rows builds them. A row with a remark is a Union, the remark beside it or filled
-/// below it.
+/// The rows with remarks of the main job's sample, over and over, as crate rows builds them: each is a Union, the remark beside the row or
+/// filled below it.
 fn test_sheet(marks: bool) -> Table {
     let mut m = Maker::new();
     let end = m.make(Make::Hardline);
     let between = m.make(Make::Softline);
     let mut sheet = m.make(Make::Nil);
-    for line in SAMPLE.lines().filter(|line| line.contains(';')).cycle().take(60) {
-        let fields: Vec<&str> = line.splitn(4, ';').collect();
+    let rows = SAMPLE.lines().map(|line| line.splitn(4, ';').collect::<Vec<&str>>());
+    for fields in rows.filter(|fields| fields.len() == 4 && !fields[3].is_empty()).cycle().take(55) {
         let fixed = m.text(&format!("{:6}{:>4} g{:>6} mm", fields[0], fields[1], fields[2]));
         let mut row = m.remarked(fixed, fields[3], between, end);
         if marks {
