@@ -2,8 +2,9 @@
 // that can't be printed whole.
 // In order: messages; printing; the whole run.
 use build::Why;
-use pallets::Checked;
 use pallets::Fault;
+use pallets::bytes::front;
+use pallets::input::Checked;
 use rows::Built;
 
 // ---- messages
@@ -62,14 +63,6 @@ fn tell_full(fd: i32, why: Why) -> bool {
 
 // ---- printing
 
-// The first so many bytes, or all.
-fn bytes_front(s: &[u8], n: usize) -> &[u8] {
-    if s.len() < n {
-        return s;
-    }
-    &s[..n]
-}
-
 // The first so many words, or all.
 fn words_front(s: &[u32], n: usize) -> &[u32] {
     if s.len() < n {
@@ -93,8 +86,8 @@ fn print_line(fd: i32, line: &[u8], marked: bool) {
 fn print_all(fd: i32, out: &[u8], events: &[u32]) {
     let mut at = 0;
     while at < out.len() {
-        let end = pallets::part_end(out, at, 10);
-        print_line(fd, &out[at..end], pallets::marked(events, at));
+        let end = pallets::bytes::part_end(out, at, 10);
+        print_line(fd, &out[at..end], pallets::marks::marked(events, at));
         if out.len() <= end {
             return;
         }
@@ -116,14 +109,14 @@ fn lay_out(table: &[u32], text: &[u8], print: i32, tell: i32) {
     }
     let used = r.used as usize;
     let words = r.marks as usize * 3;
-    print_all(print, bytes_front(&out, used), words_front(&events, words));
+    print_all(print, front(&out, used), words_front(&events, words));
 }
 
 // ---- the whole run
 
 // Checks the results, builds their sheet, lays it out and prints it.
 pub fn run(input: &[u8], print: i32, tell: i32) {
-    let checked = pallets::check(input);
+    let checked = pallets::input::check(input);
     if let Checked::FaultAt(line, fault) = checked {
         tell_line(tell, line);
         tell_fault(tell, fault);
@@ -140,12 +133,7 @@ pub fn run(input: &[u8], print: i32, tell: i32) {
         Built::Sheet(c, n) => {
             let words = n.0 as usize * 4 + 4;
             let bytes = c.bytes as usize;
-            lay_out(
-                words_front(&table, words),
-                bytes_front(&text, bytes),
-                print,
-                tell,
-            );
+            lay_out(words_front(&table, words), front(&text, bytes), print, tell);
         }
     }
 }
