@@ -104,7 +104,7 @@ body-within s = go (ltb 0 (length s) && eqb (getD s (length s - 1) 0) 13)
     go true = omega arith
     go false = omega arith
 
-index-within : (b : ℕ) (s : List ℕ) → indexOf b s ≤ length s
+pub index-within : (b : ℕ) (s : List ℕ) → indexOf b s ≤ length s
 unfolding indexOf
 index-within b [] = omega arith
 index-within b (x ∷ s) = go (eqb x b) (index-within b s)
