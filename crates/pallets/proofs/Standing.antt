@@ -2,13 +2,13 @@
 --     row-within, row-out           a row, by its label
 --     lines-from                    the line at a place, and those after it
 --     rows-from, notes-from, next-from   what it adds to the rows, to the notes out of tolerance, and to the search for the next
---     Passed, passed-.., found      lines passed over, and the row found
+--     Passed, passed-.., found      lines passed over, and the row found; first-of   for callers
 --     Counted, counted-..           rows and notes so far, with those to come
 --     counted-all, found-none       where no line is left
 -- Assumes nothing.
 use Prim.Native.Nat.{ℕ, _+_, _-_, _≤_, _<_}
 use native.Mathlib.Omega.{arith}
-use mathlib.Core.Path.{_≡_, refl, sym, ap, _∙_}
+use mathlib.Core.Path.{_≡_, refl, sym, ap, _∙_, subst}
 use mathlib.Core.List.{List, [], _∷_}
 use lib.ListN.{length, take, drop, length-drop}
 use lib.Seq.{take-take, length-take-le}
@@ -16,12 +16,13 @@ use borrow.Author.Tests.{eq-eqb, ne-eqb}
 use Rattle.pallets.specs.Lines.{indexOf, lines}
 use Rattle.pallets.specs.Pallets.{between}
 use Rattle.pallets.specs.Tolerance.{labelOf}
-use Rattle.pallets.specs.Standing.{standing, standingOf, counted, rowCount, named, outNotes, foundAt, nextOut, Names}
+use Rattle.pallets.specs.Standing.{standing, standingOf, counted, rowCount, named, outNotes, foundAt, nextOut, First, Names}
 use Rattle.pallets.specs.declared.Pallet.{Pallet}
 use Rattle.pallets.specs.declared.Line.{Line}
 use Rattle.pallets.specs.declared.Line.the-variants.{Row}
 use Rattle.pallets.specs.declared.tolerance.Standing.{Standing}
 use Rattle.pallets.specs.declared.tolerance.Standing.the-variants.{NoRow, Within, Out}
+use Rattle.pallets.specs.declared.tolerance.Next.{Next}
 use Rattle.pallets.specs.declared.tolerance.Next.the-variants.{Found, NoMore}
 use Rattle.pallets.proofs.Reading.{done, line-first}
 use Rattle.pallets.proofs.Saying.{index-within, part-within}
@@ -118,6 +119,10 @@ module _ (s : List ℕ) (at end : ℕ) (e : end ≡ at + indexOf 10 (drop at s))
             names = sym (before .notes) ∙ notes-from s at end e h Out f ∙ ap (λ (l : List ℕ). l ∷ rest) note-is;
           },
         )
+
+-- what a caller has of a row found
+pub first-of : {r : Next} {start end feed : ℕ} (s : List ℕ) (at : ℕ) → r ≡ Found start end feed → Names r s at → First s at start end feed
+first-of s at e n = subst (λ (r : Next). Names r s at) e n
 
 -- ---- counting
 

@@ -1,21 +1,24 @@
-// A chest's sheet, built by the constructors: headings and rows in order, each ending in a Hardline. Here: the sheet. texts.rt: texts;
-// words.rt: words; row.rt: a row. No public function has a `requires`.
+// A chest's sheet, built by the constructors and the block layouts: headings and rows in order, then the footer, each ending in a Hardline.
+// Here: the sheet. texts.rt: texts; words.rt: words; row.rt: a row; footer.rt: the footer. No public function has a `requires`.
 use build::Counts;
 use build::Made;
 use build::Why;
+use footer::footer;
 use pallets::Line;
 use row::row;
 use table::NodeNo;
 use words::filled;
 
+mod footer;
 mod row;
 mod texts;
 mod words;
 
-// The nodes that all rows share.
+// The nodes that all rows and the footer share.
 pub struct Shared {
     none: NodeNo,
     hardline: NodeNo,
+    line: NodeNo,
     softline: NodeNo,
 }
 
@@ -25,10 +28,17 @@ enum Start {
     Full,
 }
 
-// The sheet, or the first line that doesn't fit and why.
+// All lines with how many they are, or the first that doesn't fit and why.
+enum Lines {
+    Added(Counts, NodeNo, usize),
+    Full(usize, Why),
+}
+
+// The sheet; or the first line that doesn't fit, or the last where the footer doesn't, and why.
 pub enum Built {
     Sheet(Counts, NodeNo),
     Full(usize, Why),
+    NoFooter(usize, Why),
 }
 
 // What a line adds to the sheet: a row, a heading, an empty line.
@@ -68,33 +78,63 @@ fn added(
 }
 
 // Adds the lines of the input in order.
-fn add_lines(c: Counts, table: &mut [u32], text: &mut [u8], shared: Shared, input: &[u8]) -> Built {
+fn add_lines(c: Counts, table: &mut [u32], text: &mut [u8], shared: Shared, input: &[u8]) -> Lines {
     let mut c = c;
     let mut n = shared.none;
-    let mut before = 0;
+    let mut line = 0;
     let mut at = 0;
     while at < input.len() {
         let end = pallets::bytes::part_end(input, at, 10);
         let made = added(c, table, text, shared, n, &input[at..end]);
+        line += 1;
+        at = end + 1;
         match made {
             Made::Refused(why) => {
-                return Built::Full(before + 1, why);
+                return Lines::Full(line, why);
             }
             Made::Node(next, joined) => {
                 c = next;
                 n = joined;
             }
         }
-        if input.len() <= end {
-            return Built::Sheet(c, n);
-        }
-        before += 1;
-        at = end + 1;
     }
-    Built::Sheet(c, n)
+    Lines::Added(c, n, line)
 }
 
-// The nodes that all rows share, over an empty table and text.
+// The sheet with its footer.
+fn footed(
+    c: Counts,
+    table: &mut [u32],
+    text: &mut [u8],
+    shared: Shared,
+    n: NodeNo,
+    input: &[u8],
+) -> Made {
+    let made = footer(c, table, text, shared, input);
+    let Made::Node(c, last) = made else {
+        return made;
+    };
+    c.append(table, text, n, last)
+}
+
+// The places to break that are shared beside these two nodes.
+fn breaks(c: Counts, table: &mut [u32], text: &mut [u8], none: NodeNo, hardline: NodeNo) -> Start {
+    let Made::Node(c, line) = c.line(table, text) else {
+        return Start::Full;
+    };
+    let Made::Node(c, softline) = c.group(table, text, line) else {
+        return Start::Full;
+    };
+    let shared = Shared {
+        none,
+        hardline,
+        line,
+        softline,
+    };
+    Start::Ready(c, shared)
+}
+
+// The nodes that all rows and the footer share, over an empty table and text.
 fn share(table: &mut [u32], text: &mut [u8]) -> Start {
     let c = Counts { nodes: 0, bytes: 0 };
     let Made::Node(c, none) = c.nil(table, text) else {
@@ -103,15 +143,22 @@ fn share(table: &mut [u32], text: &mut [u8]) -> Start {
     let Made::Node(c, hardline) = c.hardline(table, text) else {
         return Start::Full;
     };
-    let Made::Node(c, softline) = c.softline(table, text) else {
-        return Start::Full;
-    };
-    let shared = Shared {
-        none,
-        hardline,
-        softline,
-    };
-    Start::Ready(c, shared)
+    breaks(c, table, text, none, hardline)
+}
+
+// The lines of the input and the footer, over the shared nodes.
+fn whole(c: Counts, table: &mut [u32], text: &mut [u8], shared: Shared, input: &[u8]) -> Built {
+    let lines = add_lines(c, table, text, shared, input);
+    match lines {
+        Lines::Full(line, why) => Built::Full(line, why),
+        Lines::Added(c, n, last) => {
+            let made = footed(c, table, text, shared, n, input);
+            match made {
+                Made::Refused(why) => Built::NoFooter(last, why),
+                Made::Node(c, n) => Built::Sheet(c, n),
+            }
+        }
+    }
 }
 
 // The sheet of an input without faults; a line at fault adds nothing. Line 0 is the one that doesn't fit where not even the shared nodes do.
@@ -120,5 +167,5 @@ pub fn build(input: &[u8], table: &mut [u32], text: &mut [u8]) -> Built {
     let Start::Ready(c, shared) = start else {
         return Built::Full(0, Why::Nodes);
     };
-    add_lines(c, table, text, shared, input)
+    whole(c, table, text, shared, input)
 }

@@ -43,21 +43,15 @@ fn tell_fault(fd: i32, fault: Fault) -> bool {
     }
 }
 
-// Writes why a line doesn't fit.
+// Writes why something doesn't fit, behind what it is.
 fn tell_full(fd: i32, why: Why) -> bool {
     match why {
-        Why::Nodes => io::write_all(
-            fd,
-            b"this is the first line that does not fit in the table's 1,024 nodes\n",
-        ),
-        Why::Bytes => io::write_all(
-            fd,
-            b"this is the first line that does not fit in the 65,536 bytes of text\n",
-        ),
-        Why::Sizes => io::write_all(fd, b"the constructors answer 1\n"),
-        Why::Operand => io::write_all(fd, b"the constructors answer 11\n"),
-        Why::Amount => io::write_all(fd, b"the constructors answer 3\n"),
-        Why::Text => io::write_all(fd, b"the constructors answer 5\n"),
+        Why::Nodes => io::write_all(fd, b" does not fit in the table's 1,024 nodes\n"),
+        Why::Bytes => io::write_all(fd, b" does not fit in the 65,536 bytes of text\n"),
+        Why::Sizes => io::write_all(fd, b" does not fit: the constructors answer 1\n"),
+        Why::Operand => io::write_all(fd, b" does not fit: the constructors answer 11\n"),
+        Why::Amount => io::write_all(fd, b" does not fit: the constructors answer 3\n"),
+        Why::Text => io::write_all(fd, b" does not fit: the constructors answer 5\n"),
     }
 }
 
@@ -128,6 +122,12 @@ pub fn run(input: &[u8], print: i32, tell: i32) {
     match built {
         Built::Full(line, why) => {
             tell_line(tell, line);
+            io::write_all(tell, b"this is the first line that");
+            tell_full(tell, why);
+        }
+        Built::NoFooter(line, why) => {
+            tell_line(tell, line);
+            io::write_all(tell, b"the footer after this last line");
             tell_full(tell, why);
         }
         Built::Sheet(c, n) => {
