@@ -2,7 +2,8 @@
 --     row-within, row-out           a row, by its label
 --     lines-from                    the line at a place, and those after it
 --     rows-from, notes-from, next-from   what it adds to the rows, to the notes out of tolerance, and to the search for the next
---     Passed, passed-.., found      lines passed over, and the row found; first-of   for callers
+--     Passed, passed-.., found      lines passed over, and the row found
+--     first-of                      what a caller has of it
 --     Counted, counted-..           rows and notes so far, with those to come
 --     counted-all, found-none       where no line is left
 -- Assumes nothing.
@@ -79,21 +80,14 @@ pub none-passed : (s : List ℕ) (from : ℕ) → Passed s from from
 none-passed s from = record { ahead = omega arith; next = refl; notes = refl }
 
 module _ (s : List ℕ) (at end : ℕ) (e : end ≡ at + indexOf 10 (drop at s)) (h : at < length s) (from : ℕ) (before : Passed s from at) where
+  over : nextOut at (lines (drop at s)) ≡ nextOut (end + 1) (lines (drop (end + 1) s)) → outNotes (lines (drop at s)) ≡ outNotes (lines (drop (end + 1) s)) → Passed s from (end + 1)
+  over n o = record { ahead = omega (arith, before .ahead); next = sym n ∙ before .next; notes = sym o ∙ before .notes }
+
   pub passed-none : NoRow ≡ standingOf (line s at end e h) → Passed s from (end + 1)
-  passed-none f =
-      record {
-        ahead = omega (arith, before .ahead);
-        next = sym (next-from s at end e h NoRow f) ∙ before .next;
-        notes = sym (notes-from s at end e h NoRow f) ∙ before .notes;
-      }
+  passed-none f = over (next-from s at end e h NoRow f) (notes-from s at end e h NoRow f)
 
   pub passed-within : Within ≡ standingOf (line s at end e h) → Passed s from (end + 1)
-  passed-within f =
-      record {
-        ahead = omega (arith, before .ahead);
-        next = sym (next-from s at end e h Within f) ∙ before .next;
-        notes = sym (notes-from s at end e h Within f) ∙ before .notes;
-      }
+  passed-within f = over (next-from s at end e h Within f) (notes-from s at end e h Within f)
 
   module _ (note : ℕ) (i : note ≡ indexOf 59 (line s at end e h)) where
     pub note-within : at + note ≤ end

@@ -6,6 +6,7 @@ ghost use lib.ListN.{length};
 use crate::Shared;
 use crate::texts::leaf;
 use crate::texts::put;
+use crate::words::BELOW;
 use crate::words::add_word;
 use block::Block;
 use build::Counts;
@@ -16,9 +17,6 @@ use pallets::tolerance::count;
 use pallets::tolerance::next_out;
 use table::Indent;
 use table::NodeNo;
-
-// How far the notes are indented below their heading.
-const BELOW: u32 = 4;
 
 // Puts a number's digits at the end; gives where the first of them stands.
 fn put_digits(out: &mut [u8], n: usize) -> usize
@@ -144,7 +142,7 @@ fn said(
     named(c, table, text, shared, input)
 }
 
-// The footer of an input, and a Hardline; of one without rows the shared Nil.
+// An empty line, the footer of an input and a Hardline; of an input without rows the shared Nil.
 pub fn footer(c: Counts, table: &mut [u32], text: &mut [u8], shared: Shared, input: &[u8]) -> Made {
     let none = shared.none;
     let hardline = shared.hardline;

@@ -10,6 +10,7 @@ use crate::texts::further;
 use crate::texts::leaf;
 use crate::texts::missing;
 use crate::texts::put;
+use crate::words::BELOW;
 use crate::words::filled;
 use crate::words::skip;
 use crate::words::trimmed;
@@ -18,9 +19,6 @@ use build::Made;
 use pallets::Pallet;
 use table::Indent;
 use table::NodeNo;
-
-// How far a remark is indented below its row.
-const BELOW: u32 = 4;
 
 // The columns of a row's fields: the note from the left, force and pluck point to the right.
 const NOTE: usize = 6;

@@ -7,7 +7,9 @@ use build::Counts;
 use build::Made;
 use table::NodeNo;
 
-// How many of the strip's 42 columns a remark below its row has.
+// How far a text is indented that goes below its row or heading, and how many of the strip's 42 columns that leaves.
+pub const BELOW: u32 = 4;
+
 const WRAPPED: usize = 38;
 
 // Words stay together up to so many columns: a place to break costs three nodes.
