@@ -11,7 +11,8 @@ fn main() {
 fn main() {
     let input = std::io::read_to_string(std::io::stdin()).expect("UTF-8");
     let arena = pretty::Arena::new();
-    let parts: Vec<_> = input.lines().map(|line| sheet::part(&arena, line)).collect();
+    let mut parts: Vec<_> = input.lines().map(|line| sheet::part(&arena, line)).collect();
+    parts.push(sheet::footer(&arena, &input));
     let wrote = compare::beside::write(&pretty::DocAllocator::concat(&arena, parts), 42);
     print!("{}", sheet::with_margins(&wrote));
 }
@@ -19,6 +20,7 @@ fn main() {
 #[cfg(pretty)]
 mod sheet {
     use compare::beside::{Built, Wrote};
+    use pretty::block::{Affixes, BlockDoc};
     use pretty::{Arena, DocAllocator};
 
     /// What a line adds: a row, a heading or an empty line.
@@ -65,6 +67,28 @@ mod sheet {
         }
         pieces.push(piece);
         arena.intersperse(pieces.into_iter().map(|piece| arena.text(piece)), arena.softline())
+    }
+
+    /// An empty line, then the notes out of tolerance as a block, or that all pallets are within; nothing of an input without rows.
+    pub fn footer<'a>(arena: &'a Arena<'a, u32>, input: &str) -> Built<'a> {
+        let lines = input.lines().filter(|line| !line.is_empty() && !line.starts_with('#'));
+        let rows: Vec<Vec<&str>> = lines.map(|line| line.splitn(4, ';').collect()).collect();
+        let out: Vec<&str> = rows.iter().filter(|row| label(row[1], row[2]) != 0).map(|row| row[0]).collect();
+        let said = match rows.len() {
+            0 => return arena.nil(),
+            _ if !out.is_empty() => named(arena, &out),
+            1 => arena.text("The pallet is within tolerance"),
+            rows => arena.text(format!("All {rows} pallets are within tolerance")),
+        };
+        arena.hardline().append(said).append(arena.hardline())
+    }
+
+    /// The notes filled between commas, behind their heading or below it.
+    fn named<'a>(arena: &'a Arena<'a, u32>, out: &[&str]) -> Built<'a> {
+        let comma = arena.text(",").append(arena.softline());
+        let notes = arena.intersperse(out.iter().map(|note| arena.text(note.to_string())), comma);
+        let heading = Affixes::new(arena.text("Out of tolerance:"), arena.nil()).nest();
+        BlockDoc { affixes: vec![heading], body: arena.line().append(notes) }.format(4)
     }
 
     /// 0 within tolerance; else 1 for the force, 2 for the pluck point, 3 for both.

@@ -23,8 +23,8 @@ use Rattle.table.proofs.Tests.{and-true}
 use Rattle.pallets.specs.Numbers.{digit, digits, numberOf, Small}
 use Rattle.pallets.specs.Lines.{indexOf, before, lines, characters, controls}
 use Rattle.pallets.specs.Marks.{openAt}
-use Rattle.pallets.specs.declared.Amount.{Amount}
-use Rattle.pallets.specs.declared.Amount.the-variants.{Is, NoNumber}
+use Rattle.pallets.specs.declared.numbers.Amount.{Amount}
+use Rattle.pallets.specs.declared.numbers.Amount.the-variants.{Is, NoNumber}
 
 -- ---- what is left of a list
 

@@ -19,11 +19,11 @@ use Rattle.table.specs.Pick.{pick}
 use Rattle.pallets.specs.Numbers.{numberOf, tenthsAdd, tenthsOf}
 use Rattle.pallets.specs.Lines.{indexOf, lines, bodyEnd, characters}
 use Rattle.pallets.specs.Pallets.{separator, cutsAt, fieldsOf, between, measured, palletOf, palletAt, said, parsed, verdictOf, firstOf, checked}
-use Rattle.pallets.specs.declared.Amount.the-variants.{NoNumber}
+use Rattle.pallets.specs.declared.numbers.Amount.the-variants.{NoNumber}
 use Rattle.pallets.specs.declared.Fault.the-variants.{NoForce, NoPluck, NoRemark, Note}
 use Rattle.pallets.specs.declared.Cuts.the-variants.{At, Missing}
 use Rattle.pallets.specs.declared.Line.the-variants.{Bad}
-use Rattle.pallets.specs.declared.Checked.the-variants.{AllSound}
+use Rattle.pallets.specs.declared.input.Checked.the-variants.{AllSound}
 use Rattle.pallets.proofs.Reading.{done, line-first}
 
 -- ---- tenths
@@ -104,7 +104,7 @@ body-within s = go (ltb 0 (length s) && eqb (getD s (length s - 1) 0) 13)
     go true = omega arith
     go false = omega arith
 
-index-within : (b : ℕ) (s : List ℕ) → indexOf b s ≤ length s
+pub index-within : (b : ℕ) (s : List ℕ) → indexOf b s ≤ length s
 unfolding indexOf
 index-within b [] = omega arith
 index-within b (x ∷ s) = go (eqb x b) (index-within b s)

@@ -3,4 +3,5 @@ pub mod Numbers
 pub mod Tolerance
 pub mod Lines
 pub mod Pallets
+pub mod Standing
 pub mod Marks

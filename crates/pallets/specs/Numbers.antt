@@ -5,8 +5,8 @@ use mathlib.Core.List.{List, [], _∷_}
 use lib.ListN.{length, getD, take, drop}
 use lib.Dec.{eqb, leb}
 use Rattle.table.specs.Pick.{pick}
-use Rattle.pallets.specs.declared.Amount.{Amount}
-use Rattle.pallets.specs.declared.Amount.the-variants.{Is, NoNumber}
+use Rattle.pallets.specs.declared.numbers.Amount.{Amount}
+use Rattle.pallets.specs.declared.numbers.Amount.the-variants.{Is, NoNumber}
 
 -- 0 to 9
 abbrev pub digit : ℕ → Bool

@@ -8,17 +8,17 @@ use Rattle.table.specs.Pick.{pick}
 use Rattle.table.specs.Utf8.{wellFormed}
 use Rattle.pallets.specs.Lines.{indexOf, bodyEnd, characters, controls}
 use Rattle.pallets.specs.Numbers.{numberOf, tenthsOf}
-use Rattle.pallets.specs.declared.Amount.{Amount}
-use Rattle.pallets.specs.declared.Amount.the-variants.{Is, NoNumber}
+use Rattle.pallets.specs.declared.numbers.Amount.{Amount}
+use Rattle.pallets.specs.declared.numbers.Amount.the-variants.{Is, NoNumber}
 use Rattle.pallets.specs.declared.Fault.the-variants.{TooLong, NotUtf8, Control, NoForce, NoPluck, NoRemark, Note, Force, Pluck}
 use Rattle.pallets.specs.declared.Cuts.{Cuts}
 use Rattle.pallets.specs.declared.Cuts.the-variants.{At, Missing}
 use Rattle.pallets.specs.declared.Line.{Line}
 use Rattle.pallets.specs.declared.Line.the-variants.{Empty, Heading, Row, Bad}
-use Rattle.pallets.specs.declared.Verdict.{Verdict}
-use Rattle.pallets.specs.declared.Verdict.the-variants.{Sound, Faulty}
-use Rattle.pallets.specs.declared.Checked.{Checked}
-use Rattle.pallets.specs.declared.Checked.the-variants.{AllSound, FaultAt}
+use Rattle.pallets.specs.declared.input.Verdict.{Verdict}
+use Rattle.pallets.specs.declared.input.Verdict.the-variants.{Sound, Faulty}
+use Rattle.pallets.specs.declared.input.Checked.{Checked}
+use Rattle.pallets.specs.declared.input.Checked.the-variants.{AllSound, FaultAt}
 
 -- the first `;` from a place on
 abbrev pub separator : List ℕ → ℕ → ℕ

@@ -1,5 +1,5 @@
 // Tells what is wrong with each of several bad inputs: standard input has them one behind the other, each ended by a `%` and a line feed.
-// Of a sound one it prints the sheet, so a message that is missing shows.
+// Of a sound one it prints the sheet, so a message that is missing shows; the last five are sound, for the comma and the footers.
 use libc::STDIN_FILENO;
 use libc::STDOUT_FILENO;
 
@@ -7,7 +7,7 @@ use libc::STDOUT_FILENO;
 fn run_all(input: &[u8]) {
     let mut at = 0;
     while at < input.len() {
-        let end = pallets::part_end(input, at, b'%');
+        let end = pallets::bytes::part_end(input, at, b'%');
         if input.len() <= end {
             return;
         }

@@ -2,8 +2,9 @@
 // that can't be printed whole.
 // In order: messages; printing; the whole run.
 use build::Why;
-use pallets::Checked;
 use pallets::Fault;
+use pallets::bytes::front;
+use pallets::input::Checked;
 use rows::Built;
 
 // ---- messages
@@ -42,33 +43,19 @@ fn tell_fault(fd: i32, fault: Fault) -> bool {
     }
 }
 
-// Writes why a line doesn't fit.
+// Writes why something doesn't fit, behind what it is.
 fn tell_full(fd: i32, why: Why) -> bool {
     match why {
-        Why::Nodes => io::write_all(
-            fd,
-            b"this is the first line that does not fit in the table's 1,024 nodes\n",
-        ),
-        Why::Bytes => io::write_all(
-            fd,
-            b"this is the first line that does not fit in the 65,536 bytes of text\n",
-        ),
-        Why::Sizes => io::write_all(fd, b"the constructors answer 1\n"),
-        Why::Operand => io::write_all(fd, b"the constructors answer 11\n"),
-        Why::Amount => io::write_all(fd, b"the constructors answer 3\n"),
-        Why::Text => io::write_all(fd, b"the constructors answer 5\n"),
+        Why::Nodes => io::write_all(fd, b" does not fit in the table's 1,024 nodes\n"),
+        Why::Bytes => io::write_all(fd, b" does not fit in the 65,536 bytes of text\n"),
+        Why::Sizes => io::write_all(fd, b" does not fit: the constructors answer 1\n"),
+        Why::Operand => io::write_all(fd, b" does not fit: the constructors answer 11\n"),
+        Why::Amount => io::write_all(fd, b" does not fit: the constructors answer 3\n"),
+        Why::Text => io::write_all(fd, b" does not fit: the constructors answer 5\n"),
     }
 }
 
 // ---- printing
-
-// The first so many bytes, or all.
-fn bytes_front(s: &[u8], n: usize) -> &[u8] {
-    if s.len() < n {
-        return s;
-    }
-    &s[..n]
-}
 
 // The first so many words, or all.
 fn words_front(s: &[u32], n: usize) -> &[u32] {
@@ -93,8 +80,8 @@ fn print_line(fd: i32, line: &[u8], marked: bool) {
 fn print_all(fd: i32, out: &[u8], events: &[u32]) {
     let mut at = 0;
     while at < out.len() {
-        let end = pallets::part_end(out, at, 10);
-        print_line(fd, &out[at..end], pallets::marked(events, at));
+        let end = pallets::bytes::part_end(out, at, 10);
+        print_line(fd, &out[at..end], pallets::marks::marked(events, at));
         if out.len() <= end {
             return;
         }
@@ -116,14 +103,14 @@ fn lay_out(table: &[u32], text: &[u8], print: i32, tell: i32) {
     }
     let used = r.used as usize;
     let words = r.marks as usize * 3;
-    print_all(print, bytes_front(&out, used), words_front(&events, words));
+    print_all(print, front(&out, used), words_front(&events, words));
 }
 
 // ---- the whole run
 
 // Checks the results, builds their sheet, lays it out and prints it.
 pub fn run(input: &[u8], print: i32, tell: i32) {
-    let checked = pallets::check(input);
+    let checked = pallets::input::check(input);
     if let Checked::FaultAt(line, fault) = checked {
         tell_line(tell, line);
         tell_fault(tell, fault);
@@ -135,17 +122,18 @@ pub fn run(input: &[u8], print: i32, tell: i32) {
     match built {
         Built::Full(line, why) => {
             tell_line(tell, line);
+            io::write_all(tell, b"this is the first line that");
+            tell_full(tell, why);
+        }
+        Built::NoFooter(line, why) => {
+            tell_line(tell, line);
+            io::write_all(tell, b"the footer after this last line");
             tell_full(tell, why);
         }
         Built::Sheet(c, n) => {
             let words = n.0 as usize * 4 + 4;
             let bytes = c.bytes as usize;
-            lay_out(
-                words_front(&table, words),
-                bytes_front(&text, bytes),
-                print,
-                tell,
-            );
+            lay_out(words_front(&table, words), front(&text, bytes), print, tell);
         }
     }
 }

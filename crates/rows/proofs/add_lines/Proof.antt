@@ -9,10 +9,10 @@ use Rattle.rows.proofs.add_lines.Statement.{statement}
 use Rattle.rows.proofs.add_lines.Tie as tie
 
 abbrev Inv-loop : tie.InvT-loop
-Inv-loop table₀ text₀ shared input c₀ n₀ before₀ at₀ table text c n before at = (length table ≡ length table₀) × (length text ≡ length text₀) × (before ≤ at) × (at ≤ length input)
+Inv-loop table₀ text₀ shared input c₀ n₀ line₀ at₀ table text c n line at = (length table ≡ length table₀) × (length text ≡ length text₀) × (line ≤ at)
 
 abbrev μ-loop : tie.MeasureT-loop
-μ-loop table₀ text₀ shared input c₀ n₀ before₀ at₀ table text c n before at = length input - at
+μ-loop table₀ text₀ shared input c₀ n₀ line₀ at₀ table text c n line at = length input - at
 
 loop-holds : tie.Need-loop-holds Inv-loop μ-loop
 loop-holds c = search needs
@@ -27,16 +27,19 @@ part-added-start : tie.Need-part-added-start Inv-loop μ-loop
 part-added-start c = search needs
 
 part-added-end : tie.Need-part-added-end Inv-loop μ-loop
-part-added-end c = let L = c .before .before .before .before .loop in omega (arith, part-within (c .before .before .before .before .before .before .before .before .before .args .input .now) (L .at) 10 (omega arith), c .before .before .part-end .ensures)
+part-added-end c = omega (arith, part-within (c .before .before .before .before .before .before .before .before .before .args .input .now) (c .before .before .before .before .loop .at) 10 (omega arith), c .before .before .part-end .ensures)
 
 added-requires : tie.Need-added-requires Inv-loop μ-loop
 added-requires c κs = search needs
 
+add-line : tie.Need-add-line Inv-loop μ-loop
+add-line c = search needs
+
+add-at : tie.Need-add-at Inv-loop μ-loop
+add-at c = omega (arith, part-within (c .before .before .before .before .before .before .before .before .before .before .before .before .before .before .before .args .input .now) (c .before .before .before .before .before .before .before .before .before .before .loop .at) 10 (omega arith), c .before .before .before .before .before .before .before .before .part-end .ensures)
+
 enum-known-made : tie.Need-enum-known-made Inv-loop μ-loop
 enum-known-made c = search needs
-
-add-t24 : tie.Need-add-t24 Inv-loop μ-loop
-add-t24 c = search needs
 
 same-length : tie.Need-same-length Inv-loop μ-loop
 same-length c = search needs
@@ -50,6 +53,12 @@ returns c = search needs
 enum-known-made-2 : tie.Need-enum-known-made-2 Inv-loop μ-loop
 enum-known-made-2 c = search needs
 
+loop-less : tie.Need-loop-less Inv-loop μ-loop
+loop-less c = omega (arith, c .before .before .before .before .before .before .before .before .before .before .before .part-end .ensures)
+
+loop-again : tie.Need-loop-again Inv-loop μ-loop
+loop-again c = search needs
+
 same-length-3 : tie.Need-same-length-3 Inv-loop μ-loop
 same-length-3 c = search needs
 
@@ -58,27 +67,6 @@ same-length-4 c = search needs
 
 returns-2 : tie.Need-returns-2 Inv-loop μ-loop
 returns-2 c = search needs
-
-add-before : tie.Need-add-before Inv-loop μ-loop
-add-before c = search needs
-
-add-at : tie.Need-add-at Inv-loop μ-loop
-add-at c = search needs
-
-loop-less : tie.Need-loop-less Inv-loop μ-loop
-loop-less c = search needs
-
-loop-again : tie.Need-loop-again Inv-loop μ-loop
-loop-again c = search needs
-
-same-length-5 : tie.Need-same-length-5 Inv-loop μ-loop
-same-length-5 c = search needs
-
-same-length-6 : tie.Need-same-length-6 Inv-loop μ-loop
-same-length-6 c = search needs
-
-returns-3 : tie.Need-returns-3 Inv-loop μ-loop
-returns-3 c = search needs
 
 pub add-lines-spec : {M : Type 1} → statement M
 add-lines-spec =
@@ -92,19 +80,15 @@ add-lines-spec =
     part-added-start
     part-added-end
     added-requires
+    add-line
+    add-at
     enum-known-made
-    add-t24
     same-length
     same-length-2
     returns
     enum-known-made-2
-    same-length-3
-    same-length-4
-    returns-2
-    add-before
-    add-at
     loop-less
     loop-again
-    same-length-5
-    same-length-6
-    returns-3)
+    same-length-3
+    same-length-4
+    returns-2)

@@ -1,0 +1,67 @@
+-- `rows::words::together` meets its contract. Assumes nothing.
+use borrow.Author.Needs.{needs}
+use Prim.Native.Nat.{_+_, _-_, _≤_}
+use lib.ListN.{length}
+use Rattle.rows.proofs.words.together.Statement.{statement}
+use Rattle.rows.proofs.words.together.Tie as tie
+
+abbrev Inv-loop : tie.InvT-loop
+Inv-loop s from wide₀ i₀ wide i = (i ≤ length s) × (wide + from ≤ i)
+
+abbrev μ-loop : tie.MeasureT-loop
+μ-loop s from wide₀ i₀ wide i = length s - i
+
+loop-holds : tie.Need-loop-holds Inv-loop μ-loop
+loop-holds c = search needs
+
+shared-slice-read-b : tie.Need-shared-slice-read-b Inv-loop μ-loop
+shared-slice-read-b c = search needs
+
+add-i : tie.Need-add-i Inv-loop μ-loop
+add-i c = search needs
+
+loop-less : tie.Need-loop-less Inv-loop μ-loop
+loop-less c = search needs
+
+loop-again : tie.Need-loop-again Inv-loop μ-loop
+loop-again c = search needs
+
+returns : tie.Need-returns Inv-loop μ-loop
+returns c = search needs
+
+returns-2 : tie.Need-returns-2 Inv-loop μ-loop
+returns-2 c = search needs
+
+add-wide : tie.Need-add-wide Inv-loop μ-loop
+add-wide c = search needs
+
+add-i-2 : tie.Need-add-i-2 Inv-loop μ-loop
+add-i-2 c = search needs
+
+loop-less-2 : tie.Need-loop-less-2 Inv-loop μ-loop
+loop-less-2 c = search needs
+
+loop-again-2 : tie.Need-loop-again-2 Inv-loop μ-loop
+loop-again-2 c = search needs
+
+returns-3 : tie.Need-returns-3 Inv-loop μ-loop
+returns-3 c = search needs
+
+pub together-spec : {M : Type 1} → statement M
+together-spec =
+    tie.close
+    (tie.spec
+    Inv-loop
+    μ-loop
+    loop-holds
+    shared-slice-read-b
+    add-i
+    loop-less
+    loop-again
+    returns
+    returns-2
+    add-wide
+    add-i-2
+    loop-less-2
+    loop-again-2
+    returns-3)

@@ -1,0 +1,174 @@
+// A row: note, force and pluck point in columns, the remark beside them or below, and the mark.
+//
+// A row with a remark is a Union. Its first arm has the remark beside the row, its second has the remark's words filled below, and both end in
+// a Hardline. A row out of tolerance is Annotated with the label of what is out.
+ghost use mathlib.Core.Path.{_≡_};
+ghost use Prim.Native.Nat.{_≤_};
+ghost use lib.ListN.{length};
+use crate::Shared;
+use crate::texts::further;
+use crate::texts::leaf;
+use crate::texts::missing;
+use crate::texts::put;
+use crate::words::BELOW;
+use crate::words::filled;
+use crate::words::skip;
+use crate::words::trimmed;
+use build::Counts;
+use build::Made;
+use pallets::Pallet;
+use table::Indent;
+use table::NodeNo;
+
+// The columns of a row's fields: the note from the left, force and pluck point to the right.
+const NOTE: usize = 6;
+
+const FORCE: usize = 4;
+
+const PLUCK: usize = 6;
+
+// Puts the field that starts there so that it ends in a column, and what it is measured in behind it.
+fn put_field(
+    out: &mut [u8],
+    at: usize,
+    line: &[u8],
+    from: usize,
+    width: usize,
+    unit: &[u8],
+) -> usize
+    ensures { λ r. ⌜ (r ≤ length (now (out .exit))) × (length (now (out .exit)) ≡ length (now (out .entry))) ⌝ }
+{
+    let end = pallets::bytes::part_end(line, from, b';');
+    let blanks = missing(end - from, width);
+    let at = further(out, at, blanks);
+    let at = put(out, at, line, from, end);
+    put(out, at, unit, 0, unit.len())
+}
+
+// Puts a row's note, force and pluck point, as the line has them, between blanks.
+fn put_row(out: &mut [u8], line: &[u8], p: Pallet) -> usize
+    ensures { λ r. ⌜ (r ≤ length (now (out .exit))) × (length (now (out .exit)) ≡ length (now (out .entry))) ⌝ }
+{
+    let end = pallets::bytes::part_end(line, 0, b';');
+    let n = put(out, 0, line, 0, end);
+    let wide = pallets::bytes::columns(pallets::bytes::front(out, n));
+    let blanks = missing(wide, NOTE);
+    let at = further(out, n, blanks);
+    let at = put_field(out, at, line, p.force, FORCE, b" g");
+    put_field(out, at, line, p.pluck, PLUCK, b" mm")
+}
+
+// The remark beside the row, and a Hardline.
+fn beside(
+    c: Counts,
+    table: &mut [u32],
+    text: &mut [u8],
+    shared: Shared,
+    fixed: NodeNo,
+    remark: &[u8],
+) -> Made {
+    let mut space = [32u8; 256];
+    let n = put(&mut space, 2, remark, 0, remark.len());
+    let made = leaf(c, table, text, pallets::bytes::front(&space, n));
+    let Made::Node(c, one) = made else {
+        return made;
+    };
+    let nodes = [fixed.0, one.0, shared.hardline.0];
+    c.concat(table, text, &nodes)
+}
+
+// The remark filled on lines of its own.
+fn lower(c: Counts, table: &mut [u32], text: &mut [u8], shared: Shared, remark: &[u8]) -> Made {
+    let hardline = shared.hardline;
+    let made = filled(c, table, text, shared, remark, 0);
+    let Made::Node(c, words) = made else {
+        return made;
+    };
+    let made = c.append(table, text, hardline, words);
+    let Made::Node(c, lines) = made else {
+        return made;
+    };
+    c.nest(table, text, lines, Indent(BELOW), 0)
+}
+
+// The remark below the row, and a Hardline.
+fn below(
+    c: Counts,
+    table: &mut [u32],
+    text: &mut [u8],
+    shared: Shared,
+    fixed: NodeNo,
+    remark: &[u8],
+) -> Made {
+    let made = lower(c, table, text, shared, remark);
+    let Made::Node(c, one) = made else {
+        return made;
+    };
+    let nodes = [fixed.0, one.0, shared.hardline.0];
+    c.concat(table, text, &nodes)
+}
+
+// The row with its remark, beside it if it fits there, else below.
+fn remarked(
+    c: Counts,
+    table: &mut [u32],
+    text: &mut [u8],
+    shared: Shared,
+    fixed: NodeNo,
+    remark: &[u8],
+) -> Made {
+    let made = beside(c, table, text, shared, fixed, remark);
+    let Made::Node(c, first) = made else {
+        return made;
+    };
+    let made = below(c, table, text, shared, fixed, remark);
+    let Made::Node(c, second) = made else {
+        return made;
+    };
+    c.union(table, text, first, second)
+}
+
+// The row with the remark that starts there, if it has one.
+fn ended(
+    c: Counts,
+    table: &mut [u32],
+    text: &mut [u8],
+    shared: Shared,
+    fixed: NodeNo,
+    line: &[u8],
+    from: usize,
+) -> Made {
+    let hardline = shared.hardline;
+    let end = trimmed(line);
+    let from = skip(line, from);
+    if end <= from {
+        return c.append(table, text, fixed, hardline);
+    }
+    remarked(c, table, text, shared, fixed, &line[from..end])
+}
+
+// A row with its mark, if it is out of tolerance.
+pub fn row(
+    c: Counts,
+    table: &mut [u32],
+    text: &mut [u8],
+    shared: Shared,
+    line: &[u8],
+    p: Pallet,
+) -> Made {
+    let mut space = [32u8; 64];
+    let n = put_row(&mut space, line, p);
+    let made = leaf(c, table, text, pallets::bytes::front(&space, n));
+    let Made::Node(c, fixed) = made else {
+        return made;
+    };
+    let made = ended(c, table, text, shared, fixed, line, p.remark);
+    let label = pallets::tolerance::label(p.grams, p.tenths);
+    if label == 0 {
+        return made;
+    }
+    let Made::Node(c, n) = made else {
+        return made;
+    };
+    c.annotate(table, text, n, label)
+}

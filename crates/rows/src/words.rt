@@ -1,0 +1,120 @@
+// Words: a text cut at its blanks and filled by softlines.
+ghost use Prim.Native.Nat.{_≤_, _<_};
+ghost use lib.ListN.{length};
+use crate::Shared;
+use crate::texts::leaf;
+use build::Counts;
+use build::Made;
+use table::NodeNo;
+
+// How far a text is indented that goes below its row or heading, and how many of the strip's 42 columns that leaves.
+pub const BELOW: u32 = 4;
+
+const WRAPPED: usize = 38;
+
+// Words stay together up to so many columns: a place to break costs three nodes.
+const TOGETHER: usize = 12;
+
+// The next place from there on that is no blank.
+pub fn skip(s: &[u8], from: usize) -> usize
+    ensures { λ r. ⌜ from ≤ r ⌝ }
+{
+    let mut i = from;
+    while i < s.len() {
+        if s[i] != b' ' {
+            return i;
+        }
+        i += 1;
+    }
+    i
+}
+
+// Where the blanks at the end start.
+pub fn trimmed(s: &[u8]) -> usize
+    ensures { λ r. ⌜ r ≤ length (now (s .entry)) ⌝ }
+{
+    let mut n = s.len();
+    while 0 < n {
+        if s[n - 1] != b' ' {
+            return n;
+        }
+        n -= 1;
+    }
+    n
+}
+
+// Where the words end that stay together from there on: at a blank once they have enough columns, and in any case before they have too many.
+fn together(s: &[u8], from: usize) -> usize
+    requires { ⌜ from < length (now s) ⌝ }
+    ensures { λ r. ⌜ (from < r) × (r ≤ length (now (s .entry))) ⌝ }
+{
+    let mut wide: usize = 0;
+    let mut i = from;
+    while i < s.len() {
+        let b = s[i];
+        let starts = (b < 128) | (191 < b);
+        if !starts {
+            i += 1;
+            continue;
+        }
+        if TOGETHER <= wide {
+            if b == b' ' {
+                return i;
+            }
+        }
+        if WRAPPED <= wide {
+            return i;
+        }
+        wide += 1;
+        i += 1;
+    }
+    i
+}
+
+// What stands, what comes between, and one Text more.
+pub fn add_word(
+    c: Counts,
+    table: &mut [u32],
+    text: &mut [u8],
+    n: NodeNo,
+    between: NodeNo,
+    bytes: &[u8],
+) -> Made {
+    let made = c.append(table, text, n, between);
+    let Made::Node(c, n) = made else {
+        return made;
+    };
+    let made = leaf(c, table, text, bytes);
+    let Made::Node(c, word) = made else {
+        return made;
+    };
+    c.append(table, text, n, word)
+}
+
+// The words from there on, filled by softlines; of none the shared Nil.
+pub fn filled(
+    c: Counts,
+    table: &mut [u32],
+    text: &mut [u8],
+    shared: Shared,
+    s: &[u8],
+    from: usize,
+) -> Made {
+    let softline = shared.softline;
+    let mut c = c;
+    let mut n = shared.none;
+    let mut between = n;
+    let mut at = skip(s, from);
+    while at < s.len() {
+        let end = together(s, at);
+        let made = add_word(c, table, text, n, between, &s[at..end]);
+        let Made::Node(next, joined) = made else {
+            return made;
+        };
+        c = next;
+        n = joined;
+        between = softline;
+        at = skip(s, end);
+    }
+    Made::Node(c, n)
+}
