@@ -38,8 +38,8 @@ module _ (text : List ℕ) (a b c : ℕ) where
   text-inside p h e = rw (le-leb (a + b) (length text) h, e)
 
   -- all of the text below 128: columns equal length
-  pub text-plain : a + b ≤ length text → ascii text ≡ true → columnsRight (take b (drop a text)) c ≡ eqb c b
-  text-plain h e = sym (columns-plain (take b (drop a text)) c (ascii-part text a b e)) ∙ ap (eqb c) (part-length text a b h)
+  pub text-plain : a + b ≤ length text → ascii (take b (drop a text)) ≡ true → columnsRight (take b (drop a text)) c ≡ eqb c b
+  text-plain h e = sym (columns-plain (take b (drop a text)) c e) ∙ ap (eqb c) (part-length text a b h)
 
 -- ---- a node
 

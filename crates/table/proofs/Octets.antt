@@ -1,7 +1,7 @@
 -- The laws of octets that the readers of text bytes lean on.
---     ascii-more, ascii-part           all below 128: one octet more; a part of the text
+--     ascii-more, ascii-part, ascii-short    all below 128: one octet more; a part of the text; the front of a part
 --     start-same                       first octets between two bounds owe the same
---     owed-first, owed-outside, owed-next, owed-end, owed-read   one octet of what is owed; the end; an octet read
+--     owed-first, owed-outside, owed-next, owed-end, owed-read, owed-low   one octet of what is owed; the end; an octet read; one below 128 read
 -- Assumes nothing.
 use Prim.Native.Nat.{ℕ, zero, suc, _+_, _-_, _≤_, _<_}
 use native.Mathlib.Omega.{arith}
@@ -10,7 +10,7 @@ use mathlib.Core.Path.{_≡_, refl, sym, ap, ap₂, _∙_}
 use mathlib.Core.Bool.{Bool, true, false, _&&_, _||_}
 use mathlib.Core.List.{List, [], _∷_, _++_}
 use lib.ListN.{length, getD, take, drop, replicate}
-use lib.Seq.{take-suc, drop-cons}
+use lib.Seq.{take-suc, take-take, drop-cons}
 use lib.Dec.{eqb, ltb, leb, eqb·suc-zero}
 use borrow.Author.Tests.{ltb-true, leb-true, le-leb, lt-leb}
 use Rattle.table.specs.Utf8.{Range, to, within, tail, Start, start, follow, never, owed, ascii}
@@ -53,6 +53,10 @@ ascii-drop (suc n) (b ∷ s) e = ascii-drop n s (and-true (ltb b 128) (ascii s) 
 -- all of the text below 128: so is every part of it
 pub ascii-part : (s : List ℕ) (o l : ℕ) → ascii s ≡ true → ascii (take l (drop o s)) ≡ true
 ascii-part s o l e = ascii-take l (drop o s) (ascii-drop o s e)
+
+-- the front of what is below 128
+pub ascii-short : (s : List ℕ) (n m : ℕ) → n ≤ m → ascii (take m s) ≡ true → ascii (take n s) ≡ true
+ascii-short s n m h e = ap ascii (sym (take-take n m s h)) ∙ ascii-take n (take m s) e
 
 -- ---- first octets
 
@@ -133,3 +137,10 @@ owed-end (suc n) low high = sym (eqb·suc-zero n)
 pub owed-read : (bytes : List ℕ) (i : ℕ) (o : Owing) (r : Next) → i < length bytes → GoesOn o (getD bytes i 0) r → goesOn r (drop (i + 1) bytes) ≡ owed (ranges o) (drop i bytes)
 owed-read bytes i o r h g =
     ap (λ (k : ℕ). goesOn r (drop k bytes)) (add-one i) ∙ sym (g (drop (suc i) bytes)) ∙ ap (owed (ranges o)) (sym (drop-cons bytes i 0 h))
+
+-- nothing is owed and the octet is below 128: it is a character
+pub owed-low : (bytes : List ℕ) (i n low high : ℕ) → i < length bytes → n ≡ 0 → getD bytes i 0 < 128 → owed (owing n low high) (drop (i + 1) bytes) ≡ owed (owing n low high) (drop i bytes)
+owed-low bytes i n low high h z l =
+    let b = getD bytes i 0 in
+    let e : start b ≡ follow [] = rw (le-leb 0 b (omega arith), le-leb b 0x7F (omega arith)) in
+    rw z (ap (λ (k : ℕ). owed [] (drop k bytes)) (add-one i) ∙ sym (owed-start b (drop (suc i) bytes) [] e) ∙ ap (owed []) (sym (drop-cons bytes i 0 h)))

@@ -10,6 +10,7 @@ ghost use Rattle.table.specs.Parts.{Tells, textFault};
 ghost use Rattle.table.specs.Fault.{unusedZero, childrenBelow, nestInRange, faultOf, firstFault, sizesRight, check};
 use utf8::below_128;
 use utf8::columns_right;
+use utf8::plainly_below_128;
 
 pub mod utf8;
 
@@ -149,7 +150,7 @@ fn nest_in_range(k: u32, b: u32, c: u32) -> bool
     (b <= 1000) & (c <= 1)
 }
 
-// A Text's range, then its bytes and columns. Where all of the text is below 128, so is every part of it.
+// A Text's range, then its bytes and columns.
 fn text_fault(text: &[u8], plain: bool, a: u32, b: u32, c: u32) -> u32
     requires { ⌜ plain ≡ ascii (now text) ⌝ }
     ensures { λ r. ⌜ r ≡ textFault (now (text .entry)) a b c ⌝ }
@@ -159,7 +160,7 @@ fn text_fault(text: &[u8], plain: bool, a: u32, b: u32, c: u32) -> u32
     if text.len() < end {
         return 4;
     }
-    if plain {
+    if plainly_below_128(text, plain, at, b as usize) {
         if c == b {
             return 0;
         }

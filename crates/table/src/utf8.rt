@@ -1,5 +1,8 @@
 // Text bytes: whether all are below 128, whether they are well-formed UTF-8 by RFC 3629, and whether a Text's columns are right.
 ghost use mathlib.Core.Path.{_≡_};
+ghost use mathlib.Core.Bool.{true};
+ghost use Prim.Native.Nat.{_+_, _≤_};
+ghost use lib.ListN.{length, take, drop};
 ghost use Rattle.table.specs.Utf8.{wellFormed, ascii, start};
 ghost use Rattle.table.specs.Parts.{starts, GoesOn};
 ghost use Rattle.table.specs.Fault.{columnsRight};
@@ -16,6 +19,37 @@ pub fn below_128(bytes: &[u8]) -> bool
         i += 1;
     }
     low
+}
+
+// Bytes that are looked at together.
+const BLOCK: usize = 32;
+
+// Whether the block from `at` on is below 128. It is read to its end, as one.
+fn block_below_128(text: &[u8], at: usize) -> bool
+    requires { ⌜ at + 32 ≤ length (now text) ⌝ }
+    ensures { λ r. ⌜ r ≡ ascii (take 32 (drop at (now (text .entry)))) ⌝ }
+{
+    let mut low = true;
+    let mut seen = 0;
+    while seen < BLOCK {
+        low = low & (text[at + seen] < 128);
+        seen += 1;
+    }
+    low
+}
+
+// Whether a part is seen at once to be below 128: all of the text is, or the block that starts with it. No is no answer.
+pub fn plainly_below_128(text: &[u8], plain: bool, at: usize, n: usize) -> bool
+    requires { ⌜ (plain ≡ ascii (now text)) × (at + n ≤ length (now text)) ⌝ }
+    ensures { λ r. ⌜ (r ≡ true → ascii (take n (drop at (now (text .entry)))) ≡ true) ⌝ }
+{
+    if plain {
+        return true;
+    }
+    if n <= BLOCK && BLOCK <= text.len() - at {
+        return block_below_128(text, at);
+    }
+    false
 }
 
 // What a character still owes: so many octets, the next between low and high, the others UTF8-tails.
@@ -135,6 +169,10 @@ pub fn well_formed(bytes: &[u8]) -> bool
     };
     let mut i = 0;
     while i < bytes.len() {
+        if o.count == 0 && bytes[i] < 128 {
+            i += 1;
+            continue;
+        }
         let next = octet(o, bytes[i]);
         let Next::Owes(p) = next else {
             return false;

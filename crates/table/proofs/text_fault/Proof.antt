@@ -1,4 +1,4 @@
--- `table::text_fault` meets its contract: 4 outside; inside, all of the text below 128, or else this part looked at. Assumes nothing.
+-- `table::text_fault` meets its contract: 4 outside; inside, seen at once to be below 128, or else looked at. Assumes nothing.
 use borrow.Author.Needs.{needs}
 use native.Mathlib.Omega.{arith}
 use mathlib.Core.Path.{_≡_, sym, ap, _∙_}
@@ -20,20 +20,23 @@ returns c =
     let a = c .before .before .args in
     text-outside (a .text .now) (a .a) (a .b) (a .c) (omega arith)
 
+plainly-below-128-requires : tie.Need-plainly-below-128-requires
+plainly-below-128-requires c κs = (c .before .before .pre, omega arith)
+
 returns-2 : tie.Need-returns-2
 returns-2 c =
-    let a = c .before .before .before .before .args in
+    let a = c .before .before .before .before .before .args in
     let text = a .text .now in
     let h : a .a + a .b ≤ length text = omega arith in
-    let low : ascii text ≡ true = sym (c .before .before .before .before .pre) ∙ c .before .if2 .taken in
+    let low : ascii (take (a .b) (drop (a .a) text)) ≡ true = c .before .before .plainly-below-128 .ensures (c .before .if2 .taken) in
     text-inside text (a .a) (a .b) (a .c) true h (text-plain text (a .a) (a .b) (a .c) h low ∙ eq-eqb (a .c) (a .b) (c .if3 .taken))
 
 returns-3 : tie.Need-returns-3
 returns-3 c =
-    let a = c .before .before .before .before .args in
+    let a = c .before .before .before .before .before .args in
     let text = a .text .now in
     let h : a .a + a .b ≤ length text = omega arith in
-    let low : ascii text ≡ true = sym (c .before .before .before .before .pre) ∙ c .before .if2 .taken in
+    let low : ascii (take (a .b) (drop (a .a) text)) ≡ true = c .before .before .plainly-below-128 .ensures (c .before .if2 .taken) in
     text-inside text (a .a) (a .b) (a .c) false h (text-plain text (a .a) (a .b) (a .c) h low ∙ ne-eqb (a .c) (a .b) (c .if3 .left))
 
 sub-columns-right : tie.Need-sub-columns-right
@@ -50,7 +53,7 @@ columns-right-requires c κs = search needs
 
 returns-4 : tie.Need-returns-4
 returns-4 c =
-    let a = c .before .before .before .before .before .before .args in
+    let a = c .before .before .before .before .before .before .before .args in
     let text = a .text .now in
     let n : a .a + a .b - a .a ≡ a .b = omega arith in
     let here : columnsRight (take (a .b) (drop (a .a) text)) (a .c) ≡ true = ap (λ (k : ℕ). columnsRight (take k (drop (a .a) text)) (a .c)) (sym n) ∙ sym (c .before .columns-right .ensures) ∙ c .if4 .taken in
@@ -58,7 +61,7 @@ returns-4 c =
 
 returns-5 : tie.Need-returns-5
 returns-5 c =
-    let a = c .before .before .before .before .before .before .args in
+    let a = c .before .before .before .before .before .before .before .args in
     let text = a .text .now in
     let n : a .a + a .b - a .a ≡ a .b = omega arith in
     let here : columnsRight (take (a .b) (drop (a .a) text)) (a .c) ≡ false = ap (λ (k : ℕ). columnsRight (take k (drop (a .a) text)) (a .c)) (sym n) ∙ sym (c .before .columns-right .ensures) ∙ c .if4 .left in
@@ -70,6 +73,7 @@ text-fault-spec =
     (tie.spec
     add-end
     returns
+    plainly-below-128-requires
     returns-2
     returns-3
     sub-columns-right

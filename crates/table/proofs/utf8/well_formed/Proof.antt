@@ -6,10 +6,11 @@ use mathlib.Core.List.{[]}
 use Prim.Native.Nat.{_+_, _-_, _≤_}
 use lib.ListN.{length, drop}
 use lib.Seq.{drop-length}
+use borrow.Author.Tests.{ltb-true}
 use Rattle.table.specs.Utf8.{wellFormed, owed}
 use Rattle.table.specs.Parts.{ranges, goesOn}
 use Rattle.table.specs.declared.utf8.Next.{Next}
-use Rattle.table.proofs.Octets.{owed-read, owed-end}
+use Rattle.table.proofs.Octets.{owed-read, owed-low, owed-end}
 use Rattle.table.proofs.utf8.well_formed.Statement.{statement}
 use Rattle.table.proofs.utf8.well_formed.Tie as tie
 
@@ -22,6 +23,21 @@ abbrev μ-loop : tie.MeasureT-loop
 loop-holds : tie.Need-loop-holds Inv-loop μ-loop
 unfolding wellFormed
 loop-holds c = (omega arith, refl)
+
+shared-slice-read-if2 : tie.Need-shared-slice-read-if2 Inv-loop μ-loop
+shared-slice-read-if2 c = search needs
+
+add-i : tie.Need-add-i Inv-loop μ-loop
+add-i c = search needs
+
+loop-less : tie.Need-loop-less Inv-loop μ-loop
+loop-less c = search needs
+
+loop-again : tie.Need-loop-again Inv-loop μ-loop
+loop-again c =
+    let L = c .before .before .before .before .before .loop in
+    let bytes = c .before .before .before .before .before .before .before .args .bytes .now in
+    (omega arith, owed-low bytes (L .i) (L .o .count) (L .o .low) (L .o .high) (omega arith) (c .before .before .if1 .taken) (ltb-true _ _ (c .if2 .taken)) ∙ L .inv .1)
 
 shared-slice-read-octet : tie.Need-shared-slice-read-octet Inv-loop μ-loop
 shared-slice-read-octet c = search needs
@@ -37,21 +53,21 @@ enum-told c = search needs
 
 returns : tie.Need-returns Inv-loop μ-loop
 returns c =
-    let L = c .before .before .before .before .before .loop in
-    let bytes = c .before .before .before .before .before .before .before .args .bytes .now in
+    let L = c .before .before .before .before .before .before .before .loop in
+    let bytes = c .before .before .before .before .before .before .before .before .before .args .bytes .now in
     let r = c .before .before .octet in
     ap (λ (x : Next). goesOn x (drop (L .i + 1) bytes)) (sym (c .enum-told .given .1)) ∙ owed-read bytes (L .i) (L .o) (r .result) (omega arith) (r .ensures) ∙ L .inv .1
 
-add-i : tie.Need-add-i Inv-loop μ-loop
-add-i c = search needs
+add-i-2 : tie.Need-add-i-2 Inv-loop μ-loop
+add-i-2 c = search needs
 
-loop-less : tie.Need-loop-less Inv-loop μ-loop
-loop-less c = search needs
+loop-less-2 : tie.Need-loop-less-2 Inv-loop μ-loop
+loop-less-2 c = search needs
 
-loop-again : tie.Need-loop-again Inv-loop μ-loop
-loop-again c =
-    let L = c .before .before .before .before .before .before .loop in
-    let bytes = c .before .before .before .before .before .before .before .before .args .bytes .now in
+loop-again-2 : tie.Need-loop-again-2 Inv-loop μ-loop
+loop-again-2 c =
+    let L = c .before .before .before .before .before .before .before .before .loop in
+    let bytes = c .before .before .before .before .before .before .before .before .before .before .args .bytes .now in
     let r = c .before .before .before .octet in
     (omega arith, ap (λ (x : Next). goesOn x (drop (L .i + 1) bytes)) (sym (c .before .next .given .1)) ∙ owed-read bytes (L .i) (L .o) (r .result) (omega arith) (r .ensures) ∙ L .inv .1)
 
@@ -70,12 +86,16 @@ well-formed-spec =
     Inv-loop
     μ-loop
     loop-holds
+    shared-slice-read-if2
+    add-i
+    loop-less
+    loop-again
     shared-slice-read-octet
     octet-requires
     enum-known-next
     enum-told
     returns
-    add-i
-    loop-less
-    loop-again
+    add-i-2
+    loop-less-2
+    loop-again-2
     returns-2)

@@ -1,0 +1,37 @@
+-- `table::utf8::plainly_below_128` meets its contract: a part of the whole, or the front of a block. Assumes nothing.
+use borrow.Author.Needs.{needs}
+use native.Mathlib.Omega.{arith}
+use mathlib.Core.Path.{sym, _∙_}
+use mathlib.Core.Bool.{false≢true}
+use Prim.Native.Nat.{_-_, _≤_}
+use lib.ListN.{length, drop}
+use borrow.Author.Tests.{leb-true}
+use Rattle.table.proofs.Octets.{ascii-part, ascii-short}
+use Rattle.table.proofs.utf8.plainly_below_128.Statement.{statement}
+use Rattle.table.proofs.utf8.plainly_below_128.Tie as tie
+
+returns : tie.Need-returns
+returns c =
+    let a = c .before .before .args in
+    λ e. ascii-part (a .text .now) (a .at) (a .n) (sym (c .before .before .pre .0) ∙ c .if1 .taken)
+
+sub-if3 : tie.Need-sub-if3
+sub-if3 c = search needs
+
+block-below-128-requires : tie.Need-block-below-128-requires
+block-below-128-requires c κs =
+    let a = c .before .before .before .before .args in
+    let room : 32 ≤ length (a .text .now) - a .at = leb-true _ _ (c .if3 .taken) in
+    omega arith
+
+returns-2 : tie.Need-returns-2
+returns-2 c =
+    let a = c .before .before .before .before .before .args in
+    λ e. ascii-short (drop (a .at) (a .text .now)) (a .n) 32 (c .before .before .if2 .taken) (sym (c .block-below-128 .ensures) ∙ e)
+
+returns-3 : tie.Need-returns-3
+returns-3 c = λ e. absurd (false≢true e)
+
+pub plainly-below-128-spec : {M : Type 1} → statement M
+plainly-below-128-spec =
+    tie.close (tie.spec returns sub-if3 block-below-128-requires returns-2 returns-3)
