@@ -9,13 +9,12 @@ use lib.ListN.{length, getD, take, drop}
 use lib.Dec.{eqb, leb}
 use borrow.Author.Tests.{lt-ltb, le-ltb, le-leb, lt-leb, eq-eqb, ne-eqb}
 use Rattle.table.specs.Pick.{pick}
-use Rattle.table.specs.Kinds.{kindAt}
+use Rattle.table.specs.Kinds.{kinds, kindAt}
 use Rattle.table.specs.declared.KindInfo.{KindInfo}
 use Rattle.table.specs.Utf8.{wellFormed, ascii}
 use Rattle.table.specs.Parts.{textFault}
 use Rattle.table.specs.Fault.{Fault, fault, unusedZero, childrenBelow, nestInRange, columnsRight, faultOf, faultAt}
 use Rattle.table.proofs.Accept.{part-length}
-use Rattle.table.proofs.Octets.{ascii-part}
 
 -- ---- columns
 
@@ -46,6 +45,11 @@ module _ (text : List ℕ) (a b c : ℕ) where
 pub fault-unknown : (text : List ℕ) (n k a b c : ℕ) → 11 ≤ k → 2 ≡ faultOf text n k a b c
 unfolding faultOf
 fault-unknown text n k a b c h = rw (le-ltb k 11 h)
+
+-- a join of two nodes below it
+pub fault-join : (n k a b c : ℕ) → k ≡ 1 → a < n → b < n → c ≡ 0 → (text : List ℕ) → faultOf text n k a b c ≡ 0
+unfolding faultOf kindAt kinds
+fault-join n k a b c one first second none text = rw (one, none, lt-ltb a n first, lt-ltb b n second)
 
 -- of a known kind, with its entry in the table of kinds
 module _ (text : List ℕ) (n k a b c : ℕ) (info : KindInfo) (known : k < 11) (entry : info ≡ kindAt k) where

@@ -2,7 +2,9 @@
 // No public function has a `requires`. Each promise is an equation with a definition of specs/, so one answer and one place are
 // possible for each table and text, and two outcomes that a promise allows are equal.
 ghost use mathlib.Core.Path.{_≡_};
-ghost use Prim.Native.Nat.{_/_, _≤_, _<_};
+ghost use mathlib.Core.Bool.{true};
+ghost use mathlib.Core.List.{List};
+ghost use Prim.Native.Nat.{ℕ, _/_, _≤_, _<_};
 ghost use lib.ListN.{length};
 ghost use Rattle.table.specs.Kinds.{kinds, kindAt};
 ghost use Rattle.table.specs.Utf8.{ascii};
@@ -173,6 +175,16 @@ fn text_fault(text: &[u8], plain: bool, a: u32, b: u32, c: u32) -> u32
     }
 }
 
+// Whether the node is a join of two below it: the most common kind is right at a glance. No is no answer.
+fn plainly_joins(n: NodeNo, k: u32, a: u32, b: u32, c: u32) -> bool
+    ensures { λ r. ⌜ (r ≡ true → (text : List ℕ) → faultOf text (n .0) k a b c ≡ 0) ⌝ }
+{
+    if k != 1 {
+        return false;
+    }
+    (a < n.0) & (b < n.0) & (c == 0)
+}
+
 // 0, or the first of 2, 3, 4, 5.
 fn node_fault(
     text: &[u8],
@@ -216,20 +228,18 @@ fn first_fault(table: &[u32], text: &[u8], plain: bool) -> Fault
         let at = n * 4;
         let place = NodeNo(n as u32);
         let k = table[at];
+        let a = table[at + 1];
+        let b = table[at + 2];
+        let c = table[at + 3];
+        if plainly_joins(place, k, a, b, c) {
+            n += 1;
+            continue;
+        }
         if 11 <= k {
             return Fault { answer: 2, place };
         }
         let info = kinds[k as usize];
-        let answer = node_fault(
-            text,
-            plain,
-            info,
-            place,
-            k,
-            table[at + 1],
-            table[at + 2],
-            table[at + 3],
-        );
+        let answer = node_fault(text, plain, info, place, k, a, b, c);
         if answer != 0 {
             return Fault { answer, place };
         }

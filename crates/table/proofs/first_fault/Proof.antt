@@ -1,7 +1,7 @@
 -- `table::first_fault` meets its contract: the nodes before n have no fault. Assumes nothing.
 use borrow.Author.Needs.{needs}
 use native.Mathlib.Omega.{arith}
-use mathlib.Core.Path.{_≡_, ap, _∙_}
+use mathlib.Core.Path.{_≡_, sym, ap, _∙_}
 use Prim.Native.Nat.{_*_, _-_, _/_, _≤_}
 use lib.ListN.{length, getD}
 use mathlib.Core.List.{List}
@@ -38,14 +38,59 @@ mul-k c = search needs
 shared-slice-read-k : tie.Need-shared-slice-read-k Inv-loop μ-loop
 shared-slice-read-k c = search needs
 
-returns : tie.Need-returns Inv-loop μ-loop
-returns c =
-    let a = c .before .before .before .before .before .before .before .args in
+add-a : tie.Need-add-a Inv-loop μ-loop
+add-a c = search needs
+
+mul-a : tie.Need-mul-a Inv-loop μ-loop
+mul-a c = search needs
+
+shared-slice-read-a : tie.Need-shared-slice-read-a Inv-loop μ-loop
+shared-slice-read-a c = search needs
+
+add-b : tie.Need-add-b Inv-loop μ-loop
+add-b c = search needs
+
+mul-b : tie.Need-mul-b Inv-loop μ-loop
+mul-b c = search needs
+
+shared-slice-read-b : tie.Need-shared-slice-read-b Inv-loop μ-loop
+shared-slice-read-b c = search needs
+
+add-c : tie.Need-add-c Inv-loop μ-loop
+add-c c = search needs
+
+mul-c : tie.Need-mul-c Inv-loop μ-loop
+mul-c c = search needs
+
+shared-slice-read-c : tie.Need-shared-slice-read-c Inv-loop μ-loop
+shared-slice-read-c c = search needs
+
+plainly-joins-requires : tie.Need-plainly-joins-requires Inv-loop μ-loop
+plainly-joins-requires c κs = search needs
+
+add-n : tie.Need-add-n Inv-loop μ-loop
+add-n c = search needs
+
+loop-less : tie.Need-loop-less Inv-loop μ-loop
+loop-less c = search needs
+
+loop-again : tie.Need-loop-again Inv-loop μ-loop
+loop-again c =
+    let a = c .before .before .before .before .before .before .before .before .before .before .before .args in
     let table = a .table .now in
     let text = a .text .now in
-    let L = c .before .before .before .loop in
-    let f = fault-read table text (L .n) 2 (fault-unknown text (L .n) (getD table (L .n * 4) 0) _ _ _ (c .if1 .taken)) in
-    reported (firstFault table text (length table / 4)) 2 (L .n) (first-here table text (L .n) 2 (length table / 4) (L .inv .1) f (λ e. omega arith) (c .before .before .loop-test .taken))
+    let L = c .before .before .before .before .before .before .before .loop in
+    let f = fault-read table text (L .n) 0 (sym (c .before .plainly-joins .ensures (c .if1 .taken) text)) in
+    (omega arith, rw add-one (first-next table text (L .n) (L .inv .1) f))
+
+returns : tie.Need-returns Inv-loop μ-loop
+returns c =
+    let a = c .before .before .before .before .before .before .before .before .before .before .before .before .args in
+    let table = a .table .now in
+    let text = a .text .now in
+    let L = c .before .before .before .before .before .before .before .before .loop in
+    let f = fault-read table text (L .n) 2 (fault-unknown text (L .n) (getD table (L .n * 4) 0) _ _ _ (c .if2 .taken)) in
+    reported (firstFault table text (length table / 4)) 2 (L .n) (first-here table text (L .n) 2 (length table / 4) (L .inv .1) f (λ e. omega arith) (c .before .before .before .before .before .before .before .loop-test .taken))
 
 cast-info : tie.Need-cast-info Inv-loop μ-loop
 cast-info c = search needs
@@ -56,63 +101,38 @@ mul-info c = search needs
 array-copy-out-info : tie.Need-array-copy-out-info Inv-loop μ-loop
 array-copy-out-info c = search needs
 
-add-node-fault : tie.Need-add-node-fault Inv-loop μ-loop
-add-node-fault c = search needs
-
-mul-node-fault : tie.Need-mul-node-fault Inv-loop μ-loop
-mul-node-fault c = search needs
-
-shared-slice-read-node-fault : tie.Need-shared-slice-read-node-fault Inv-loop μ-loop
-shared-slice-read-node-fault c = search needs
-
-add-node-fault-2 : tie.Need-add-node-fault-2 Inv-loop μ-loop
-add-node-fault-2 c = search needs
-
-mul-node-fault-2 : tie.Need-mul-node-fault-2 Inv-loop μ-loop
-mul-node-fault-2 c = search needs
-
-shared-slice-read-node-fault-2 : tie.Need-shared-slice-read-node-fault-2 Inv-loop μ-loop
-shared-slice-read-node-fault-2 c = search needs
-
-add-node-fault-3 : tie.Need-add-node-fault-3 Inv-loop μ-loop
-add-node-fault-3 c = search needs
-
-mul-node-fault-3 : tie.Need-mul-node-fault-3 Inv-loop μ-loop
-mul-node-fault-3 c = search needs
-
-shared-slice-read-node-fault-3 : tie.Need-shared-slice-read-node-fault-3 Inv-loop μ-loop
-shared-slice-read-node-fault-3 c = search needs
-
 node-fault-requires : tie.Need-node-fault-requires Inv-loop μ-loop
 unfolding kindAt
 node-fault-requires c κs =
-    let s = c .before .before .before .before .before .before .before .before .before .before .before in
-    let k = getD (s .args .table .now) (c .before .before .before .before .before .before .before .loop .n * 4) 0 in
-    (s .pre .0, omega arith, ap (λ (t : List KindInfo). getD t k (kind 0 0)) (c .before .before .before .before .before .before .before .before .all-kinds .ensures))
+    let s = c .before .before .before .before .before .before .before .before .before .before .before .before .before in
+    let k = getD (s .args .table .now) (c .before .before .before .before .before .before .before .before .before .loop .n * 4) 0 in
+    (s .pre .0, omega arith, ap (λ (t : List KindInfo). getD t k (kind 0 0)) (c .before .before .before .before .before .before .before .before .before .before .all-kinds .ensures))
 
 returns-2 : tie.Need-returns-2 Inv-loop μ-loop
 returns-2 c =
-    let a = c .before .before .before .before .before .before .before .before .before .before .before .before .before .args in
+    let a = c .before .before .before .before .before .before .before .before .before .before .before .before .before .before .before .args in
     let table = a .table .now in
     let text = a .text .now in
-    let L = c .before .before .before .before .before .before .before .before .before .loop in
-    let f = fault-read table text (L .n) (c .before .node-fault .result) (c .before .node-fault .ensures) in
-    reported (firstFault table text (length table / 4)) (c .before .node-fault .result) (L .n) (first-here table text (L .n) (c .before .node-fault .result) (length table / 4) (L .inv .1) f (c .if2 .taken) (c .before .before .before .before .before .before .before .before .loop-test .taken))
+    let L = c .before .before .before .before .before .before .before .before .before .before .before .loop in
+    let r = c .before .node-fault in
+    let f = fault-read table text (L .n) (r .result) (r .ensures) in
+    reported (firstFault table text (length table / 4)) (r .result) (L .n) (first-here table text (L .n) (r .result) (length table / 4) (L .inv .1) f (c .if3 .taken) (c .before .before .before .before .before .before .before .before .before .before .loop-test .taken))
 
-add-n : tie.Need-add-n Inv-loop μ-loop
-add-n c = search needs
+add-n-2 : tie.Need-add-n-2 Inv-loop μ-loop
+add-n-2 c = search needs
 
-loop-less : tie.Need-loop-less Inv-loop μ-loop
-loop-less c = search needs
+loop-less-2 : tie.Need-loop-less-2 Inv-loop μ-loop
+loop-less-2 c = search needs
 
-loop-again : tie.Need-loop-again Inv-loop μ-loop
-loop-again c =
-    let a = c .before .before .before .before .before .before .before .before .before .before .before .before .before .args in
+loop-again-2 : tie.Need-loop-again-2 Inv-loop μ-loop
+loop-again-2 c =
+    let a = c .before .before .before .before .before .before .before .before .before .before .before .before .before .before .before .args in
     let table = a .table .now in
     let text = a .text .now in
-    let L = c .before .before .before .before .before .before .before .before .before .loop in
-    let f = fault-read table text (L .n) (c .before .node-fault .result) (c .before .node-fault .ensures) in
-    (omega arith, rw add-one (first-next table text (L .n) (L .inv .1) (f ∙ c .if2 .left)))
+    let L = c .before .before .before .before .before .before .before .before .before .before .before .loop in
+    let r = c .before .node-fault in
+    let f = fault-read table text (L .n) (r .result) (r .ensures) in
+    (omega arith, rw add-one (first-next table text (L .n) (L .inv .1) (f ∙ c .if3 .left)))
 
 returns-3 : tie.Need-returns-3 Inv-loop μ-loop
 returns-3 c =
@@ -135,22 +155,26 @@ first-fault-spec =
     cast-k
     mul-k
     shared-slice-read-k
+    add-a
+    mul-a
+    shared-slice-read-a
+    add-b
+    mul-b
+    shared-slice-read-b
+    add-c
+    mul-c
+    shared-slice-read-c
+    plainly-joins-requires
+    add-n
+    loop-less
+    loop-again
     returns
     cast-info
     mul-info
     array-copy-out-info
-    add-node-fault
-    mul-node-fault
-    shared-slice-read-node-fault
-    add-node-fault-2
-    mul-node-fault-2
-    shared-slice-read-node-fault-2
-    add-node-fault-3
-    mul-node-fault-3
-    shared-slice-read-node-fault-3
     node-fault-requires
     returns-2
-    add-n
-    loop-less
-    loop-again
+    add-n-2
+    loop-less-2
+    loop-again-2
     returns-3)
