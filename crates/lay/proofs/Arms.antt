@@ -10,6 +10,7 @@ use lib.ListN.{getD, length, take, length-append, length-replicate, replicate}
 use lib.Seq.{length-take-le, take-take}
 use lib.Dec.{ltb}
 use borrow.Author.Tests.{le-leb, lt-leb, lt-ltb, le-ltb}
+use Rattle.rules.specs.Call.{eventWords}
 use Rattle.buffer.specs.Run as run
 use Rattle.buffer.proofs.Put.{take-put}
 use Rattle.table.specs.Node.{wayOf}
@@ -147,7 +148,7 @@ saved-counts N b k d r w le lt t h =
 
 -- the state and the node that the entry at height d gives back
 pub give-back : (s : State) (w out ev : List ℕ) (d : ℕ) (h : Hand) (v : SavedWords) (q : State)
-    → s .used ≤ length out → s .marks * 3 ≤ length ev → savedAt w d .bytes ≤ s .used → savedAt w d .events ≤ s .marks
+    → s .used ≤ length out → s .marks * eventWords ≤ length ev → savedAt w d .bytes ≤ s .used → savedAt w d .events ≤ s .marks
     → HandAt w d h → SavedAt w d v → q ≡ restoredOf (s .left) v d
     → Turning (Go q h) out ev w (on (back (savedAt w d) (pageOf s out ev)) (s .left) (savedAt w d .over) (node (getD w (d * 4) 0) (getD w (d * 4 + 1) 0) (modeOf (getD w (d * 4 + 2) 0)) ∷ stackOf d w))
 give-back s w out ev d h v q used marks lb lk ph pv eq =

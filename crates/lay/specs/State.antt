@@ -2,6 +2,7 @@
 use Prim.Native.Nat.{ℕ, zero, suc, _+_, _*_}
 use mathlib.Core.List.{List, [], _∷_, _++_}
 use lib.ListN.{getD, take}
+use Rattle.rules.specs.Call.{eventWords}
 use Rattle.rules.specs.Layout.{Event, Page}
 use Rattle.machine.specs.Waiting.{Entry, node}
 use Rattle.waiting.specs.Stack.{modeOf}
@@ -23,7 +24,7 @@ restoredOf left v d =
 
 -- record n of the events' words
 abbrev pub eventAt : List ℕ → ℕ → Event
-eventAt ev n = record { offset = getD ev (n * 3) 0; mark = getD ev (n * 3 + 1) 0; label = getD ev (n * 3 + 2) 0 }
+eventAt ev n = record { offset = getD ev (n * eventWords) 0; mark = getD ev (n * eventWords + 1) 0; label = getD ev (n * eventWords + 2) 0 }
 
 -- the first n records
 unfoldable pub eventsOf : ℕ → List ℕ → List Event

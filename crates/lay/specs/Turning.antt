@@ -5,6 +5,7 @@ use mathlib.Core.Bool.{Bool, true}
 use mathlib.Core.List.{List, [], _∷_, _++_}
 use lib.ListN.{length}
 use lib.Dec.{ltb}
+use Rattle.rules.specs.Call.{eventWords}
 use Rattle.rules.specs.Layout.{Limits, Page}
 use Rattle.machine.specs.Waiting.{Entry}
 use Rattle.machine.specs.Turn.{Turned, on, stop}
@@ -35,26 +36,26 @@ marksOf (Stop a n left) = 0
 pub record Turning (r : Turn) (out ev w : List ℕ) (t : Turned) : Type 0 where
   pub same : turnedOf r out ev w ≡ t
   pub used : usedOf r ≤ length out
-  pub marks : marksOf r * 3 ≤ length ev
+  pub marks : marksOf r * eventWords ≤ length ev
 
 -- a function that writes the work area alone
 pub record Kept (s : State) (r : Turn) (w′ : List ℕ) (t : Page → Turned) : Type 0 where
-  pub turning : (out ev : List ℕ) → s .used ≤ length out → s .marks * 3 ≤ length ev → Turning r out ev w′ (t (pageOf s out ev))
+  pub turning : (out ev : List ℕ) → s .used ≤ length out → s .marks * eventWords ≤ length ev → Turning r out ev w′ (t (pageOf s out ev))
 
 -- a function that writes nothing, where what waits is well
 pub record Restoring (s : State) (w : List ℕ) (r : Turn) (t : Page → Turned) : Type 0 where
-  pub turning : (out ev : List ℕ) (N : ℕ) → s .used ≤ length out → s .marks * 3 ≤ length ev → Stacked N (s .used) (s .marks) (stackOf (s .depth) w) → Turning r out ev w (t (pageOf s out ev))
+  pub turning : (out ev : List ℕ) (N : ℕ) → s .used ≤ length out → s .marks * eventWords ≤ length ev → Stacked N (s .used) (s .marks) (stackOf (s .depth) w) → Turning r out ev w (t (pageOf s out ev))
 
 -- a function that writes the output alone
 pub record Wrote (s : State) (out : List ℕ) (r : Turn) (out′ : List ℕ) (t : Limits → Page → List Entry → Turned) : Type 0 where
-  pub turning : (L : Limits) (ev w : List ℕ) → L .room ≡ length out → s .marks * 3 ≤ length ev → Turning r out′ ev w (t L (pageOf s out ev) (stackOf (s .depth) w))
+  pub turning : (L : Limits) (ev w : List ℕ) → L .room ≡ length out → s .marks * eventWords ≤ length ev → Turning r out′ ev w (t L (pageOf s out ev) (stackOf (s .depth) w))
 
 -- a function that writes the events and the work area
 pub record Annotated (s : State) (ev : List ℕ) (r : Turn) (ev′ w′ : List ℕ) (t : Limits → Page → Turned) : Type 0 where
-  pub turning : (L : Limits) (out : List ℕ) → L .slots ≡ length ev / 3 → s .used ≤ length out → Turning r out ev′ w′ (t L (pageOf s out ev))
+  pub turning : (L : Limits) (out : List ℕ) → L .slots ≡ length ev / eventWords → s .used ≤ length out → Turning r out ev′ w′ (t L (pageOf s out ev))
 
 -- an event is noted exactly if a record is left for it
 pub record Noted (ev : List ℕ) (marks offset mark label : ℕ) (r : Bool) (ev′ : List ℕ) : Type 0 where
-  pub fits : r ≡ ltb marks (length ev / 3)
-  pub room : r ≡ true → (marks + 1) * 3 ≤ length ev
+  pub fits : r ≡ ltb marks (length ev / eventWords)
+  pub room : r ≡ true → (marks + 1) * eventWords ≤ length ev
   pub noted : r ≡ true → eventsOf (marks + 1) ev′ ≡ eventsOf marks ev ++ (record { offset = offset; mark = mark; label = label } ∷ [])

@@ -4,6 +4,7 @@
 // events stand in the output, and are taken back by the counts that the end of the trial saved. Events are three words each here.
 // Nothing here is an entry point of the library: each function says what it asks of its caller.
 use fitting::Fit;
+use rules::EVENT_WORDS;
 use table::Column;
 use table::Indent;
 use table::NodeNo;
@@ -13,10 +14,11 @@ use waiting::Saved;
 ghost use mathlib.Core.Path.{_≡_};
 ghost use mathlib.Core.Bool.{false, _||_};
 ghost use mathlib.Core.List.{_∷_};
-ghost use Prim.Native.Nat.{_+_, _*_, _≤_, _<_};
+ghost use Prim.Native.Nat.{_+_, _*_, _/_, _≤_, _<_};
 ghost use lib.ListN.{length, take, drop};
 ghost use lib.Dec.{ltb};
 ghost use Rattle.table.specs.Node.{wayOf};
+ghost use Rattle.rules.specs.Call.{eventWords};
 ghost use Rattle.rules.specs.Layout.{nested, wrote, fed};
 ghost use Rattle.machine.specs.Turn.{put, giveUp, grouped, on as going, event as noted};
 ghost use Rattle.machine.specs.Waiting.{node as waits, trial as tries, mark as closes, nextIndent};
@@ -101,11 +103,11 @@ pub fn lay_hardline(out: &mut [u8], work: &[u32], s: State, own: Indent) -> Turn
 
 // An event is noted, or there is no room for it.
 pub fn put_event(events: &mut [u32], marks: usize, offset: usize, mark: u32, label: u32) -> bool
-    requires { ⌜ (marks * 3 ≤ length (now events)) × (length (now events) ≤ 12290) × (offset ≤ 65536) ⌝ }
+    requires { ⌜ (marks * eventWords ≤ length (now events)) × (length (now events) / eventWords ≤ 4096) × (offset ≤ 65536) ⌝ }
     ensures { λ r. ⌜ Noted (now (events .entry)) marks offset mark label r (now (events .exit)) ⌝ }
 {
-    let at = marks * 3;
-    if events.len() - at < 3 {
+    let at = marks * EVENT_WORDS;
+    if events.len() - at < EVENT_WORDS {
         return false;
     }
     events[at] = offset as u32;
@@ -247,7 +249,7 @@ pub fn lay_annotated(
     child: u32,
     label: u32,
 ) -> Turn
-    requires { ⌜ (s .depth < 1024) × (8192 ≤ length (now work)) × (s .marks * 3 ≤ length (now events)) × (length (now events) ≤ 12290) × (s .used ≤ 65536) ⌝ }
+    requires { ⌜ (s .depth < 1024) × (8192 ≤ length (now work)) × (s .marks * eventWords ≤ length (now events)) × (length (now events) / eventWords ≤ 4096) × (s .used ≤ 65536) ⌝ }
     ensures { λ r. ⌜ Annotated s (now (events .entry)) r (now (events .exit)) (now (work .exit)) (λ L p. noted L (hand .node .0) 1 label p (s .left) (flagOf (s .over)) (waits child (hand .indent .0) (modeOf (hand .mode .0)) ∷ closes (hand .node .0) label ∷ stackOf (s .depth) (now (work .entry)))) ⌝ }
 {
     let node = hand.node;

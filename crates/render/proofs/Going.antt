@@ -8,6 +8,7 @@ use mathlib.Core.List.{List, [], _∷_}
 use lib.ListN.{length, take}
 use lib.Seq.{length-take-le}
 use lib.Dec.{ltb}
+use Rattle.rules.specs.Call.{eventWords}
 use Rattle.table.specs.Pick.{pick}
 use Rattle.table.specs.Valid.{Valid}
 use Rattle.table.specs.declared.NodeNo.{NodeNo}
@@ -108,7 +109,7 @@ module _ (T tx : List ℕ) (W limit N : ℕ) where
     pub evs : length ev ≡ length ev₀
     pub works : length w ≡ length w₀
     pub used : s .used ≤ length out
-    pub marks : s .marks * 3 ≤ length ev
+    pub marks : s .marks * eventWords ≤ length ev
     pub well : Well (E out ev .limits) N (pageOf s out ev) (top h ∷ stackOf (s .depth) w)
     pub left : s .left ≤ limit
     pub turns : ℕ

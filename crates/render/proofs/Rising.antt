@@ -8,6 +8,7 @@ use mathlib.Core.List.{List, [], _∷_, _++_}
 use lib.ListN.{getD, length, take}
 use lib.Seq.{length-take-le}
 use lib.Dec.{ltb}
+use Rattle.rules.specs.Call.{eventWords}
 use Rattle.table.specs.declared.NodeNo.{NodeNo}
 use Rattle.rules.specs.Layout.{Limits, marked}
 use Rattle.machine.specs.Waiting.{node, mark}
@@ -34,13 +35,13 @@ leads L s out ev w = takeUp L (pageOf s out ev) (s .left) (flagOf (s .over)) (st
 pub record Rising (ev₀ w : List ℕ) (s₀ : State) (ev : List ℕ) (s : State) : Type 0 where
   pub depth : s .depth ≤ 1024
   pub area : 8192 ≤ length w
-  pub slots : length ev ≤ 12290
-  pub marks : s .marks * 3 ≤ length ev
+  pub slots : length ev / eventWords ≤ 4096
+  pub marks : s .marks * eventWords ≤ length ev
   pub long : length ev ≡ length ev₀
   pub used : s .used ≡ s₀ .used
-  pub said : (L : Limits) (out : List ℕ) (N : ℕ) → L .slots ≡ length ev₀ / 3 → s₀ .used ≤ length out → Stacked N (s₀ .used) (s₀ .marks) (stackOf (s₀ .depth) w) → Stacked N (s .used) (s .marks) (stackOf (s .depth) w) × (leads L s out ev w ≡ leads L s₀ out ev₀ w)
+  pub said : (L : Limits) (out : List ℕ) (N : ℕ) → L .slots ≡ length ev₀ / eventWords → s₀ .used ≤ length out → Stacked N (s₀ .used) (s₀ .marks) (stackOf (s₀ .depth) w) → Stacked N (s .used) (s .marks) (stackOf (s .depth) w) × (leads L s out ev w ≡ leads L s₀ out ev₀ w)
 
-pub rise-start : (ev w : List ℕ) (s : State) → (s .depth ≤ 1024) × (8192 ≤ length w) × (s .marks * 3 ≤ length ev) × (length ev ≤ 12290) × (s .used ≤ 65536) → Rising ev w s ev s
+pub rise-start : (ev w : List ℕ) (s : State) → (s .depth ≤ 1024) × (8192 ≤ length w) × (s .marks * eventWords ≤ length ev) × (length ev / eventWords ≤ 4096) × (s .used ≤ 65536) → Rising ev w s ev s
 rise-start ev w s h =
     record { depth = h .0; area = h .1; slots = h .3; marks = h .2; long = refl; used = refl; said = λ L out N e le st. (st, refl) }
 
@@ -117,7 +118,7 @@ module _ (ev₀ w : List ℕ) (s₀ : State) (ev : List ℕ) (s : State) (h : Ri
 
     module _ (no-node : getD w (d * 4 + 3) 0 ≡ 0 → ⊥) (no-trial : getD w (d * 4 + 3) 0 ≡ 1 → ⊥) (r : Bool) (ev′ : List ℕ)
         (p : Noted ev (s .marks) (s .used) 0 (getD w (d * 4 + 1) 0) r ev′) (len : length ev′ ≡ length ev) where
-      room : (L : Limits) → L .slots ≡ length ev₀ / 3 → ltb (length (eventsOf (s .marks) ev)) (L .slots) ≡ r
+      room : (L : Limits) → L .slots ≡ length ev₀ / eventWords → ltb (length (eventsOf (s .marks) ev)) (L .slots) ≡ r
       room L e = rw (length-events (s .marks) ev, e, ← (h .long)) (sym (p .fits))
 
       pub rise-full : r ≡ false → TakenUp s₀ ev₀ w (Stop 9 (record { 0 = getD w (d * 4) 0 }) (s .left)) ev′

@@ -3,6 +3,7 @@ use mathlib.Core.Path.{_≡_}
 use Prim.Native.Nat.{ℕ, _-_, _*_, _≤_}
 use mathlib.Core.List.{List}
 use lib.ListN.{length, take}
+use Rattle.rules.specs.Call.{eventWords}
 use Rattle.rules.specs.Layout.{Report}
 use Rattle.machine.specs.Turn.{layout}
 use Rattle.lay.specs.State.{eventsOf}
@@ -17,5 +18,5 @@ reportOf limit r out ev =
 pub record Laid (T tx out ev : List ℕ) (W limit N : ℕ) (r : End) (out′ ev′ : List ℕ) : Type 0 where
   pub same : reportOf limit r out′ ev′ ≡ layout (envOf T tx out ev W limit) (N - 1)
   pub used : r .used ≤ length out′
-  pub marks : r .marks * 3 ≤ length ev′
+  pub marks : r .marks * eventWords ≤ length ev′
   pub left : r .left ≤ limit

@@ -5,6 +5,7 @@ use mathlib.Core.Bool.{Bool}
 use mathlib.Core.List.{List, [], _∷_}
 use lib.ListN.{length}
 use lib.Dec.{ltb}
+use Rattle.rules.specs.Call.{eventWords}
 use Rattle.table.specs.Pick.{pick}
 use Rattle.rules.specs.Layout.{Limits, Page, marked}
 use Rattle.machine.specs.Waiting.{Entry, node, trial, mark, back}
@@ -34,7 +35,7 @@ upFrom L (stop a n left) = stop a n left
 
 -- over a state that is well, and any output; a node that is done, with nothing in hand, leaves nothing waiting
 pub record TakenUp (s : State) (ev w : List ℕ) (r : Turn) (ev′ : List ℕ) : Type 0 where
-  pub turning : (L : Limits) (out : List ℕ) (N : ℕ) → L .slots ≡ length ev / 3 → s .used ≤ length out → Stacked N (s .used) (s .marks) (stackOf (s .depth) w) → Turning r out ev′ w (takeUp L (pageOf s out ev) (s .left) (flagOf (s .over)) (stackOf (s .depth) w))
+  pub turning : (L : Limits) (out : List ℕ) (N : ℕ) → L .slots ≡ length ev / eventWords → s .used ≤ length out → Stacked N (s .used) (s .marks) (stackOf (s .depth) w) → Turning r out ev′ w (takeUp L (pageOf s out ev) (s .left) (flagOf (s .over)) (stackOf (s .depth) w))
   pub empty : (q : State) → r ≡ Done q → q .depth ≡ 0
 
 -- a visit, and what is taken up after it

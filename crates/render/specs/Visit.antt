@@ -2,6 +2,7 @@
 use Prim.Native.Nat.{ℕ, _*_, _/_, _≤_, _<_}
 use mathlib.Core.List.{List, _∷_}
 use lib.ListN.{length}
+use Rattle.rules.specs.Call.{eventWords}
 use Rattle.table.specs.Node.{nodeAt}
 use Rattle.table.specs.Valid.{Valid}
 use Rattle.machine.specs.Turn.{Env, Turned, visit}
@@ -16,7 +17,7 @@ use Rattle.lay.specs.declared.Turn.{Turn}
 -- table, text, output, events, width and limit, as the step function has them
 abbrev pub envOf : List ℕ → List ℕ → List ℕ → List ℕ → ℕ → ℕ → Env
 envOf T tx out ev W limit =
-    record { table = T; str = tx; limits = record { width = W; limit = limit; room = length out; slots = length ev / 3 } }
+    record { table = T; str = tx; limits = record { width = W; limit = limit; room = length out; slots = length ev / eventWords } }
 
 -- a valid table of N nodes, at least one; sizes within bounds
 pub record Start (T tx out ev w : List ℕ) (W N : ℕ) : Type 0 where
@@ -26,7 +27,7 @@ pub record Start (T tx out ev w : List ℕ) (W N : ℕ) : Type 0 where
   pub small : N ≤ 1024
   pub texts : length tx ≤ 65536
   pub room : length out ≤ 65536
-  pub slots : length ev ≤ 12290
+  pub slots : length ev / eventWords ≤ 4096
   pub area : 16384 ≤ length w
   pub width : W ≤ 65535
 
@@ -35,7 +36,7 @@ pub record Ready (T tx out ev w : List ℕ) (W : ℕ) (s : State) (h : Hand) : T
   pub N : ℕ
   pub start : Start T tx out ev w W N
   pub used : s .used ≤ length out
-  pub marks : s .marks * 3 ≤ length ev
+  pub marks : s .marks * eventWords ≤ length ev
   pub column : s .column .0 ≤ s .used
   pub stack : Stacked N (s .used) (s .marks) (top h ∷ stackOf (s .depth) w)
 

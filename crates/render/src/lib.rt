@@ -9,8 +9,9 @@ use table::Indent;
 use table::NodeNo;
 use waiting::Hand;
 use waiting::Mode;
-ghost use Prim.Native.Nat.{_+_, _*_, _≤_, _<_};
+ghost use Prim.Native.Nat.{_+_, _*_, _/_, _≤_, _<_};
 ghost use lib.ListN.{length};
+ghost use Rattle.rules.specs.Call.{eventWords};
 ghost use Rattle.render.specs.Visit.{Start, Ready, Visited};
 ghost use Rattle.render.specs.TakeUp.{TakenUp, TurnedUp};
 ghost use Rattle.render.specs.Best.{Laid};
@@ -87,7 +88,7 @@ fn visit(
 
 // A node is done: ends are taken up, until a node goes on or nothing waits.
 fn take_up(events: &mut [u32], work: &[u32], state: State) -> Turn
-    requires { ⌜ (state .depth ≤ 1024) × (8192 ≤ length (now work)) × (state .marks * 3 ≤ length (now events)) × (length (now events) ≤ 12290) × (state .used ≤ 65536) ⌝ }
+    requires { ⌜ (state .depth ≤ 1024) × (8192 ≤ length (now work)) × (state .marks * eventWords ≤ length (now events)) × (length (now events) / eventWords ≤ 4096) × (state .used ≤ 65536) ⌝ }
     ensures { λ r. ⌜ TakenUp state (now (events .entry)) (now (work .entry)) r (now (events .exit)) ⌝ }
 {
     let mut s = state;

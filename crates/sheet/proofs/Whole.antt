@@ -17,7 +17,7 @@ use Rattle.table.proofs.Tests.{and-true}
 use Rattle.table.proofs.Accept.{accepted-of}
 use Rattle.table.proofs.Sound.{valid-check}
 use Rattle.rules.specs.Layout as rules
-use Rattle.rules.specs.Call.{Given, buffersRight, limits, refusal, call, wordsOf}
+use Rattle.rules.specs.Call.{Given, buffersRight, limits, refusal, call, wordsOf, eventWords}
 use Rattle.machine.proofs.Rules.{layout-is}
 use Rattle.lay.specs.State.{eventsOf}
 use Rattle.lay.proofs.Events.{length-events}
@@ -99,13 +99,13 @@ module _ (T tx out ev w : List ℕ) (W limit : ℕ) (right : buffersRight (given
 
 -- out, ev and w as the run left them
 pub called : (g : Given) (words : ℕ) (r : Report) (out ev w out′ ev′ w′ : List ℕ) → Decided g r out ev → length out ≡ g .room → length ev ≡ words → length w ≡ g .work
-    → out′ ≡ zeroed out (r .used) → ev′ ≡ zeroed ev (r .marks * 3) → w′ ≡ replicate (length w) 0 → Called g words r out′ ev′ w′
+    → out′ ≡ zeroed out (r .used) → ev′ ≡ zeroed ev (r .marks * eventWords) → w′ ≡ replicate (length w) 0 → Called g words r out′ ev′ w′
 called g words r out ev w out′ ev′ w′ d eo ee ew zo ze zw =
     let b : call g .bytes ≡ take (r .used) out = sym (ap (λ (x : rules.Report). x .bytes) (d .same)) in
     let es : call g .events ≡ eventsOf (r .marks) ev = sym (ap (λ (x : rules.Report). x .events) (d .same)) in
     let u : length (take (r .used) out) ≡ r .used = length-take-le (r .used) out (d .used) in
-    let ws : wordsOf (call g .events) ≡ take (r .marks * 3) ev = rw es (words-front (r .marks) ev (d .marks)) in
-    let m : length (take (r .marks * 3) ev) ≡ r .marks * 3 = length-take-le (r .marks * 3) ev (d .marks) in
+    let ws : wordsOf (call g .events) ≡ take (r .marks * eventWords) ev = rw es (words-front (r .marks) ev (d .marks)) in
+    let m : length (take (r .marks * eventWords) ev) ≡ r .marks * eventWords = length-take-le (r .marks * eventWords) ev (d .marks) in
     record {
       answer = ap (λ (x : rules.Report). x .answer) (d .same);
       place = ap (λ (x : rules.Report). x .place) (d .same);

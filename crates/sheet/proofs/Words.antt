@@ -8,7 +8,7 @@ use mathlib.Core.List.{List, [], _∷_, _++_, append-assoc}
 use lib.ListN.{getD, length, take, drop}
 use lib.Seq.{take-suc}
 use Rattle.rules.specs.Layout.{Event}
-use Rattle.rules.specs.Call.{wordsOf}
+use Rattle.rules.specs.Call.{wordsOf, eventWords}
 use Rattle.lay.specs.State.{eventAt, eventsOf}
 
 words-append : (es fs : List Event) → wordsOf (es ++ fs) ≡ wordsOf es ++ wordsOf fs
@@ -25,12 +25,12 @@ take-three ev k h =
     let e : k + 3 ≡ suc (suc (suc k)) = omega arith in
     rw (e, c, b, a, add-one, add-two) (simp append-assoc)
 
-pub words-front : (n : ℕ) (ev : List ℕ) → n * 3 ≤ length ev → wordsOf (eventsOf n ev) ≡ take (n * 3) ev
+pub words-front : (n : ℕ) (ev : List ℕ) → n * eventWords ≤ length ev → wordsOf (eventsOf n ev) ≡ take (n * eventWords) ev
 unfolding wordsOf eventsOf
 words-front zero ev h = refl
 words-front (suc n) ev h =
-    let e : suc n * 3 ≡ n * 3 + 3 = omega arith in
-    words-append (eventsOf n ev) (eventAt ev n ∷ []) ∙ rw (words-front n ev (omega arith), e) (sym (take-three ev (n * 3) (omega arith)))
+    let e : suc n * eventWords ≡ n * eventWords + 3 = omega arith in
+    words-append (eventsOf n ev) (eventAt ev n ∷ []) ∙ rw (words-front n ev (omega arith), e) (sym (take-three ev (n * eventWords) (omega arith)))
 
 -- what was noted is known by its words
 pub words-injective : (es fs : List Event) → wordsOf es ≡ wordsOf fs → es ≡ fs

@@ -39,4 +39,4 @@ reported r out events =
 pub record Decided (g : Given) (r : Report) (out events : List ℕ) : Type 0 where
   pub same : reported r out events ≡ call g
   pub used : r .used ≤ length out
-  pub marks : r .marks * 3 ≤ length events
+  pub marks : r .marks * eventWords ≤ length events

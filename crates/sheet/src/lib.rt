@@ -3,6 +3,7 @@
 // No public function has a `requires`: any table, text, width, limit and buffers get a numbered answer, and the call ends. The table and the
 // text are only read. A refusal leaves every byte of the output and every event zero; what is past the used part is zero after answer 0 too;
 // the work area is zero after every call. Events are three words each: offset, mark (1 opens, 0 closes), label.
+use rules::EVENT_WORDS;
 use table::NodeNo;
 ghost use mathlib.Core.Path.{_≡_};
 ghost use mathlib.Core.List.{[]};
@@ -30,7 +31,7 @@ fn buffers_right(out: usize, events: usize, work: usize, width: u32, limit: u32)
     ensures { λ r. ⌜ r ≡ buffersRight (given [] [] width limit out events work) ⌝ }
 {
     (out <= 65536)
-        & (events / 3 <= 4096)
+        & (events / EVENT_WORDS <= 4096)
         & (16384 <= work)
         & (width <= 65535)
         & (limit <= 100000000)
@@ -95,7 +96,7 @@ pub fn layout(
 {
     let report = decide(table, text, width, limit, out, events, work);
     let used = report.used as usize;
-    let words = (report.marks as usize) * 3;
+    let words = (report.marks as usize) * EVENT_WORDS;
     buffer::zero_bytes_from(out, used);
     buffer::zero_words_from(events, words);
     buffer::clear_dirty_words(work);
