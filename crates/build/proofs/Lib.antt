@@ -21,3 +21,4 @@ pub mod Means
 pub mod Compose
 pub mod Promises
 pub mod Lent
+pub mod Unique

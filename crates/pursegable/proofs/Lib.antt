@@ -2,3 +2,4 @@
 pub mod Answering
 pub mod Flags
 pub mod Making
+pub mod Unique

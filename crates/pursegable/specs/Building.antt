@@ -77,7 +77,7 @@ known what = leb what 18 && not (eqb what 6)
 abbrev pub anyMade : ℕ → ℕ → ℕ → ℕ → Counts → List ℕ → List ℕ → Outcome
 anyMade what a b d s table text = pick (isLeaf what) (leafMade what s table text) (innerMade what a b d s table text)
 
--- 1 comes first; an unknown constructor is answer 2
+-- counts below three words are answer 1; then an unknown constructor is answer 2
 unfoldable pub makes : ℕ → ℕ → ℕ → ℕ → List ℕ → List ℕ → List ℕ → Left
 makes what a b d table text counts =
     pick (leb 3 (length counts) && not (known what)) (left 2 table text counts) (built (anyMade what a b d) table text counts)

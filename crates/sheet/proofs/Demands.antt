@@ -31,7 +31,7 @@ use Rattle.sheet.proofs.Whole.{call-sizes, call-fault, call-run, buffer
 -- ---- one outcome
 
 -- a report is its five numbers
-report-is : (r r′ : Report) → r .answer ≡ r′ .answer → r .place .0 ≡ r′ .place .0 → r .steps ≡ r′ .steps → r .used ≡ r′ .used → r .marks ≡ r′ .marks → r ≡ r′
+pub report-is : (r r′ : Report) → r .answer ≡ r′ .answer → r .place .0 ≡ r′ .place .0 → r .steps ≡ r′ .steps → r .used ≡ r′ .used → r .marks ≡ r′ .marks → r ≡ r′
 report-is r r′ a p s u m = λ i. record { answer = a i; place = record { 0 = p i }; steps = s i; used = u i; marks = m i }
 
 -- and a report of the rules its numbers, bytes and events
