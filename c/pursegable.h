@@ -7,7 +7,19 @@
  *   - no buffer that is written overlaps another.
  * The same call with the same contents always leaves the same answer and the same contents.
  *
- * A table is words, four to a node: kind, a, b, c; the root is its last node.
+ * A table is words, four to a node: kind, a, b, c; the root is its last node. A child's number is below its parent's, nodes
+ * may be shared, and words that a kind doesn't use are 0:
+ *    0  Nil        nothing
+ *    1  Append     a first, b second
+ *    2  Group      a child: flat if it fits, else broken
+ *    3  FlatAlt    a when broken, b when flat
+ *    4  Nest       a child, b amount 0 to 1,000, c 0 adds or 1 subtracts
+ *    5  Hardline   a line end and the next node's indentation
+ *    6  Text       a offset and b length of its bytes in the text, c columns: as many as bytes if all are below 128, else at most
+ *    7  Annotated  a child, b label, any word
+ *    8  Union      a first arm, b second arm, taken if the first ends past width
+ *    9  Align      a child, indented by the column
+ *   10  Fail       gives the innermost first arm up
  *
  * Answers, of every function:
  *    0  done
@@ -51,8 +63,9 @@ typedef struct {
 
 /* Lays a table out. Returns the answer.
  *
- * `report` gets the answer, the place (the node at fault or due), the steps, the used bytes and the used events, and zero
- * in the rest of its words. On a refusal `out` and `events` are zero, and used bytes and events are 0; on 0 everything past
+ * `report` gets the answer, the place, the steps, the used bytes and the used events, and zero in the rest of its words. The
+ * place is the node at fault for 2 to 5, the node due for 7, the Annotated node for 9, else 0. Steps are told for 0 and 6 to
+ * 9, and are 0 otherwise. On a refusal `out` and `events` are zero, and used bytes and events are 0; on 0 everything past
  * the used part is zero. `work` is zero after every call. A report below five words is answer 1, with it and every other
  * buffer zero. Table and text are only read. */
 uint32_t pursegable_layout(const uint32_t *table, size_t table_len,
