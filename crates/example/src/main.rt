@@ -16,7 +16,7 @@ fn main() {
     let Made::Node(c, blank) = made else {
         return;
     };
-    let made = c.text(&mut table, &mut text, b"neu belederen", Column(13));
+    let made = c.text(&mut table, &mut text, b"neu beledern", Column(12));
     let Made::Node(c, remark) = made else {
         return;
     };
