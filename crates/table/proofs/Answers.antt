@@ -51,6 +51,11 @@ pub fault-join : (n k a b c : ℕ) → k ≡ 1 → a < n → b < n → c ≡ 0 �
 unfolding faultOf kindAt kinds
 fault-join n k a b c one first second none text = rw (one, none, lt-ltb a n first, lt-ltb b n second)
 
+-- a group of a node below it
+pub fault-group : (n k a b c : ℕ) → k ≡ 2 → a < n → b ≡ 0 → c ≡ 0 → (text : List ℕ) → faultOf text n k a b c ≡ 0
+unfolding faultOf kindAt kinds
+fault-group n k a b c two child none last text = rw (two, none, last, lt-ltb a n child)
+
 -- of a known kind, with its entry in the table of kinds
 module _ (text : List ℕ) (n k a b c : ℕ) (info : KindInfo) (known : k < 11) (entry : info ≡ kindAt k) where
   pub fault-unused : unusedZero (info .words) a b c ≡ false → 2 ≡ faultOf text n k a b c

@@ -175,14 +175,17 @@ fn text_fault(text: &[u8], plain: bool, a: u32, b: u32, c: u32) -> u32
     }
 }
 
-// Whether the node is a join of two below it: the most common kind is right at a glance. No is no answer.
-fn plainly_joins(n: NodeNo, k: u32, a: u32, b: u32, c: u32) -> bool
+// Whether the node is a join or a group of nodes below it: the most common kinds are right at a glance. No is no answer.
+fn plainly_right(n: NodeNo, k: u32, a: u32, b: u32, c: u32) -> bool
     ensures { λ r. ⌜ (r ≡ true → (text : List ℕ) → faultOf text (n .0) k a b c ≡ 0) ⌝ }
 {
-    if k != 1 {
-        return false;
+    if k == 1 {
+        return (a < n.0) & (b < n.0) & (c == 0);
     }
-    (a < n.0) & (b < n.0) & (c == 0)
+    if k == 2 {
+        return (a < n.0) & (b == 0) & (c == 0);
+    }
+    false
 }
 
 // 0, or the first of 2, 3, 4, 5.
@@ -231,7 +234,7 @@ fn first_fault(table: &[u32], text: &[u8], plain: bool) -> Fault
         let a = table[at + 1];
         let b = table[at + 2];
         let c = table[at + 3];
-        if plainly_joins(place, k, a, b, c) {
+        if plainly_right(place, k, a, b, c) {
             n += 1;
             continue;
         }

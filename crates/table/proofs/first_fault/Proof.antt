@@ -65,8 +65,8 @@ mul-c c = search needs
 shared-slice-read-c : tie.Need-shared-slice-read-c Inv-loop μ-loop
 shared-slice-read-c c = search needs
 
-plainly-joins-requires : tie.Need-plainly-joins-requires Inv-loop μ-loop
-plainly-joins-requires c κs = search needs
+plainly-right-requires : tie.Need-plainly-right-requires Inv-loop μ-loop
+plainly-right-requires c κs = search needs
 
 add-n : tie.Need-add-n Inv-loop μ-loop
 add-n c = search needs
@@ -80,7 +80,7 @@ loop-again c =
     let table = a .table .now in
     let text = a .text .now in
     let L = c .before .before .before .before .before .before .before .loop in
-    let f = fault-read table text (L .n) 0 (sym (c .before .plainly-joins .ensures (c .if1 .taken) text)) in
+    let f = fault-read table text (L .n) 0 (sym (c .before .plainly-right .ensures (c .if1 .taken) text)) in
     (omega arith, rw add-one (first-next table text (L .n) (L .inv .1) f))
 
 returns : tie.Need-returns Inv-loop μ-loop
@@ -164,7 +164,7 @@ first-fault-spec =
     add-c
     mul-c
     shared-slice-read-c
-    plainly-joins-requires
+    plainly-right-requires
     add-n
     loop-less
     loop-again
