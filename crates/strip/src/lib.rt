@@ -131,8 +131,24 @@ fn lay_out(table: &[u32], text: &[u8], print: i32, tell: i32) -> bool {
 
 // ---- the whole run
 
+// The results without the byte order mark that some editors put in front of them: it is no part of the first note.
+fn unmarked(input: &[u8]) -> &[u8] {
+    if input.len() < 3 {
+        return input;
+    }
+    if (input[0] == 0xEF) & (input[1] == 0xBB) & (input[2] == 0xBF) {
+        return &input[3..];
+    }
+    input
+}
+
 // Checks the results, builds their sheet, lays it out and prints it; gives whether it was printed whole.
 pub fn run(input: &[u8], print: i32, tell: i32) -> bool {
+    let input = unmarked(input);
+    if input.len() == 0 {
+        io::write_all(tell, b"there is no input\n");
+        return false;
+    }
     let checked = pallets::input::check(input);
     if let Checked::FaultAt(line, fault) = checked {
         tell_line(tell, line);
