@@ -34,11 +34,11 @@ fn tell_fault(fd: i32, fault: Fault) -> bool {
             fd,
             b"the ; before the remark is missing (note;force;pluck point;remark)\n",
         ),
-        Fault::Note => io::write_all(fd, b"the note has no or more than 5 characters\n"),
-        Fault::Force => io::write_all(fd, b"the force is no whole number of grams, 0 to 9999\n"),
+        Fault::Note => io::write_all(fd, b"the note must have 1 to 5 characters, not all of them blanks\n"),
+        Fault::Force => io::write_all(fd, b"the force is not a whole number of grams, 0 to 9999\n"),
         Fault::Pluck => io::write_all(
             fd,
-            b"the pluck point is no number of millimetres like 1.2\n",
+            b"the pluck point is not a number of millimetres like 1.2\n",
         ),
     }
 }
