@@ -6,6 +6,10 @@ use pallets::Fault;
 use pallets::bytes::front;
 use pallets::input::Checked;
 use rows::Built;
+use rules::EVENT_WORDS;
+
+// Room for the most events that a call may have.
+const EVENTS: usize = 4096 * EVENT_WORDS;
 
 // ---- messages
 
@@ -34,7 +38,10 @@ fn tell_fault(fd: i32, fault: Fault) -> bool {
             fd,
             b"the ; before the remark is missing (note;force;pluck point;remark)\n",
         ),
-        Fault::Note => io::write_all(fd, b"the note must have 1 to 5 characters, not all of them blanks\n"),
+        Fault::Note => io::write_all(
+            fd,
+            b"the note must have 1 to 5 characters, not all of them blanks\n",
+        ),
         Fault::Force => io::write_all(fd, b"the force is not a whole number of grams, 0 to 9999\n"),
         Fault::Pluck => io::write_all(
             fd,
@@ -115,7 +122,7 @@ fn print_whole(out: &[u8], events: &[u32], print: i32, tell: i32) -> bool {
 // Lays the sheet out and prints it, or says what the layout answered; gives whether it was printed whole.
 fn lay_out(table: &[u32], text: &[u8], print: i32, tell: i32) -> bool {
     let mut out = [0u8; 65536];
-    let mut events = [0u32; 12288];
+    let mut events = [0u32; EVENTS];
     let mut work = [0u32; 16384];
     let r = sheet::sheet(table, text, &mut out, &mut events, &mut work);
     if r.answer != 0 {
@@ -125,7 +132,7 @@ fn lay_out(table: &[u32], text: &[u8], print: i32, tell: i32) -> bool {
         return false;
     }
     let used = r.used as usize;
-    let words = r.marks as usize * 3;
+    let words = r.marks as usize * EVENT_WORDS;
     print_whole(front(&out, used), words_front(&events, words), print, tell)
 }
 
