@@ -87,12 +87,12 @@ impl Maker {
 
 const SAMPLE: &str = include_str!("../../crates/chest/stdin");
 
-/// Words that stay together up to 12 columns.
+/// Words that stay together up to 12 columns, where they fit in 38.
 fn pieces(text: &str) -> Vec<String> {
     let mut pieces: Vec<String> = Vec::new();
     for word in text.split(' ') {
         match pieces.last_mut() {
-            Some(last) if last.chars().count() < 12 => *last = format!("{last} {word}"),
+            Some(last) if last.chars().count() < 12 && last.chars().count() + 1 + word.chars().count() <= 38 => *last = format!("{last} {word}"),
             _ => pieces.push(word.to_string()),
         }
     }

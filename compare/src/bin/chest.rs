@@ -29,7 +29,7 @@ mod sheet {
             return arena.hardline();
         }
         if let Some(heading) = line.strip_prefix('#') {
-            return words(arena, heading).append(arena.hardline());
+            return words(arena, heading, 42).append(arena.hardline());
         }
         let fields: Vec<&str> = line.splitn(4, ';').collect();
         let fixed = arena.text(format!("{:6}{:>4} g{:>6} mm", fields[0], fields[1], fields[2]));
@@ -44,12 +44,13 @@ mod sheet {
     /// The remark beside the row and a Hardline, or filled below it and a Hardline.
     fn remarked<'a>(arena: &'a Arena<'a, u32>, fixed: Built<'a>, remark: &str) -> Built<'a> {
         let beside = fixed.clone().append(arena.text(format!("  {remark}"))).append(arena.hardline());
-        let below = arena.hardline().append(words(arena, remark)).nest(4);
+        let below = arena.hardline().append(words(arena, remark, 38)).nest(4);
         beside.union(fixed.append(below).append(arena.hardline()))
     }
 
-    /// The words filled by softlines; they stay together up to 12 columns, and no piece has more than 38.
-    fn words<'a>(arena: &'a Arena<'a, u32>, text: &str) -> Built<'a> {
+    /// The words filled by softlines; they stay together up to 12 columns, and no piece has more than `most`: it ends at its last blank, or
+    /// within a word that has more.
+    fn words<'a>(arena: &'a Arena<'a, u32>, text: &str, most: usize) -> Built<'a> {
         let mut pieces: Vec<String> = Vec::new();
         let mut piece = String::new();
         for character in text.trim_matches(' ').chars() {
@@ -57,11 +58,13 @@ mod sheet {
             if wide == 0 && character == ' ' {
                 continue;
             }
-            if wide == 38 || (wide >= 12 && character == ' ') {
+            if wide >= 12 && character == ' ' {
                 pieces.push(std::mem::take(&mut piece));
-                if character == ' ' {
-                    continue;
-                }
+                continue;
+            }
+            if wide == most {
+                let rest = piece.rfind(' ').map_or(String::new(), |blank| piece.split_off(blank));
+                pieces.push(std::mem::replace(&mut piece, rest.trim_start_matches(' ').to_string()));
             }
             piece.push(character);
         }

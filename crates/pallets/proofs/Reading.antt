@@ -3,6 +3,7 @@
 --     digit-.., digits-end, number-..   a number's bytes, and how large it gets
 --     ..-counts, no-characters      the bytes of characters
 --     control-.., no-controls       control characters
+--     blank-.., all-blank           blanks
 --     part-.., no-part              the first of a byte
 --     past, opens, closes, no-mark  marks
 --     line-first                    the first line, and those after it
@@ -21,7 +22,7 @@ use borrow.Author.Tests.{leb-true, le-leb, lt-leb, lt-ltb, le-ltb, eq-eqb, ne-eq
 use Rattle.table.specs.Pick.{pick}
 use Rattle.table.proofs.Tests.{and-true}
 use Rattle.pallets.specs.Numbers.{digit, digits, numberOf, Small}
-use Rattle.pallets.specs.Lines.{indexOf, before, lines, characters, controls}
+use Rattle.pallets.specs.Lines.{indexOf, before, lines, characters, blank, controls}
 use Rattle.pallets.specs.Marks.{openAt}
 use Rattle.pallets.specs.declared.numbers.Amount.{Amount}
 use Rattle.pallets.specs.declared.numbers.Amount.the-variants.{Is, NoNumber}
@@ -133,6 +134,16 @@ module _ (s : List ℕ) (i : ℕ) (h : i < length s) where
   unfolding controls
   control-none l e = rw (more s i h, le-ltb (getD s i 0) 32 l, ne-eqb (getD s i 0) 127 e)
 
+  -- ---- blanks
+
+  pub blank-next : getD s i 0 ≡ 32 → blank (drop i s) ≡ blank (drop (i + 1) s)
+  unfolding blank
+  blank-next e = rw (more s i h, eq-eqb (getD s i 0) 32 e)
+
+  pub blank-not : (getD s i 0 ≡ 32 → ⊥) → blank (drop i s) ≡ false
+  unfolding blank
+  blank-not e = rw (more s i h, ne-eqb (getD s i 0) 32 e)
+
   -- ---- parts
 
   pub part-here : (b : ℕ) → getD s i 0 ≡ b → indexOf b (drop i s) ≡ 0
@@ -150,6 +161,10 @@ no-characters s i h = rw (done s i h)
 pub no-controls : (s : List ℕ) (i : ℕ) → length s ≤ i → controls (drop i s) ≡ false
 unfolding controls
 no-controls s i h = rw (done s i h)
+
+pub all-blank : (s : List ℕ) (i : ℕ) → length s ≤ i → blank (drop i s) ≡ true
+unfolding blank
+all-blank s i h = rw (done s i h)
 
 pub no-part : (s : List ℕ) (i b : ℕ) → length s ≤ i → indexOf b (drop i s) ≡ 0
 unfolding indexOf

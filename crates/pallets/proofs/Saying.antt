@@ -17,7 +17,7 @@ use lib.Dec.{eqb, ltb}
 use borrow.Author.Tests.{le-leb, lt-leb, ne-eqb}
 use Rattle.table.specs.Pick.{pick}
 use Rattle.pallets.specs.Numbers.{numberOf, tenthsAdd, tenthsOf}
-use Rattle.pallets.specs.Lines.{indexOf, lines, bodyEnd, characters}
+use Rattle.pallets.specs.Lines.{indexOf, lines, bodyEnd, characters, blank}
 use Rattle.pallets.specs.Pallets.{separator, cutsAt, fieldsOf, between, measured, palletOf, palletAt, said, parsed, verdictOf, firstOf, checked}
 use Rattle.pallets.specs.declared.numbers.Amount.the-variants.{NoNumber}
 use Rattle.pallets.specs.declared.Fault.the-variants.{NoForce, NoPluck, NoRemark, Note}
@@ -77,18 +77,19 @@ module _ (s : List ℕ) (a : ℕ) (ea : a ≡ separator s 0) where
 
 -- ---- a pallet
 
-module _ (s : List ℕ) (first second third w : ℕ) (e : w ≡ characters (take first s)) where
-  pub no-note : w ≡ 0 → Bad Note ≡ palletOf s first second third
+module _ (s : List ℕ) (first second third : ℕ) where
+  pub no-note : blank (take first s) ≡ true → Bad Note ≡ palletOf s first second third
   unfolding palletOf
-  no-note h = rw (← e, lt-leb 1 w (omega arith))
+  no-note h = rw h
 
-  pub long-note : 5 < w → Bad Note ≡ palletOf s first second third
-  unfolding palletOf
-  long-note h = rw (← e, le-leb 1 w (omega arith), lt-leb w 5 h)
+  module _ (h : blank (take first s) ≡ false) (w : ℕ) (e : w ≡ characters (take first s)) where
+    pub long-note : 5 < w → Bad Note ≡ palletOf s first second third
+    unfolding palletOf
+    long-note u = rw (h, ← e, lt-leb w 5 u)
 
-  pub pallet-is : 0 < w → w ≤ 5 → measured first second third (numberOf (between s (first + 1) second)) (tenthsOf (between s (second + 1) third)) ≡ palletOf s first second third
-  unfolding palletOf
-  pallet-is l u = rw (← e, le-leb 1 w l, le-leb w 5 u)
+    pub pallet-is : w ≤ 5 → measured first second third (numberOf (between s (first + 1) second)) (tenthsOf (between s (second + 1) third)) ≡ palletOf s first second third
+    unfolding palletOf
+    pallet-is u = rw (h, ← e, le-leb w 5 u)
 
 pub said-is : (s : List ℕ) → (length s ≡ 0 → ⊥) → (getD s 0 0 ≡ 35 → ⊥) → palletAt s (fieldsOf s) ≡ said s
 unfolding said

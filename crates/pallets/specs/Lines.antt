@@ -1,6 +1,6 @@
 -- The lines of an input, the parts of a line, and how many columns a text takes.
 use Prim.Native.Nat.{ℕ, suc, _-_}
-use mathlib.Core.Bool.{Bool, false, _||_, _&&_}
+use mathlib.Core.Bool.{Bool, true, false, _||_, _&&_}
 use mathlib.Core.List.{List, [], _∷_}
 use lib.ListN.{length, getD}
 use lib.Dec.{eqb, leb, ltb}
@@ -33,6 +33,11 @@ goesOn b = leb 128 b && leb b 191
 unfoldable pub characters : List ℕ → ℕ
 characters [] = 0
 characters (b ∷ bs) = pick (goesOn b) (characters bs) (suc (characters bs))
+
+-- nothing, or blanks only
+unfoldable pub blank : List ℕ → Bool
+blank [] = true
+blank (b ∷ bs) = eqb b 32 && blank bs
 
 -- a byte below 32, or 127
 unfoldable pub controls : List ℕ → Bool

@@ -1,12 +1,11 @@
 -- What a line says, `note;force;pluck point;remark`, and which line of an input is at fault first.
 use Prim.Native.Nat.{ℕ, _+_, _-_, _<_}
-use mathlib.Core.Bool.{_&&_}
 use mathlib.Core.List.{List, [], _∷_}
 use lib.ListN.{length, getD, take, drop}
 use lib.Dec.{eqb, leb, ltb}
 use Rattle.table.specs.Pick.{pick}
 use Rattle.table.specs.Utf8.{wellFormed}
-use Rattle.pallets.specs.Lines.{indexOf, bodyEnd, characters, controls}
+use Rattle.pallets.specs.Lines.{indexOf, bodyEnd, characters, blank, controls}
 use Rattle.pallets.specs.Numbers.{numberOf, tenthsOf}
 use Rattle.pallets.specs.declared.numbers.Amount.{Amount}
 use Rattle.pallets.specs.declared.numbers.Amount.the-variants.{Is, NoNumber}
@@ -52,12 +51,13 @@ measured first second third (Is grams) NoNumber = Bad Pluck
 measured first second third (Is grams) (Is point) =
     Row (record { force = first + 1; pluck = second + 1; remark = third + 1; grams = grams; tenths = point })
 
--- a note of one to five columns, then force and pluck point
+-- a note of at most five columns that is not blank, then force and pluck point
 unfoldable pub palletOf : List ℕ → ℕ → ℕ → ℕ → Line
 palletOf s first second third =
-    pick (leb 1 (characters (take first s)) && leb (characters (take first s)) 5)
+    pick (blank (take first s)) (Bad Note)
+    (pick (leb (characters (take first s)) 5)
     (measured first second third (numberOf (between s (first + 1) second)) (tenthsOf (between s (second + 1) third)))
-    (Bad Note)
+    (Bad Note))
 
 unfoldable pub palletAt : List ℕ → Cuts → Line
 palletAt s (Missing fault) = Bad fault

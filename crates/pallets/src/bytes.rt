@@ -2,7 +2,7 @@
 ghost use mathlib.Core.Path.{_≡_};
 ghost use Prim.Native.Nat.{_+_};
 ghost use lib.ListN.{take, drop};
-ghost use Rattle.pallets.specs.Lines.{indexOf, bodyEnd, characters, controls};
+ghost use Rattle.pallets.specs.Lines.{indexOf, bodyEnd, characters, blank, controls};
 
 // The first so many bytes, or all.
 pub fn front(s: &[u8], n: usize) -> &[u8]
@@ -61,6 +61,20 @@ pub fn body_end(s: &[u8]) -> usize
         return n - 1;
     }
     n
+}
+
+// Whether there are blanks only, or nothing.
+pub fn is_blank(s: &[u8]) -> bool
+    ensures { λ r. ⌜ r ≡ blank (now (s .entry)) ⌝ }
+{
+    let mut i = 0;
+    while i < s.len() {
+        if s[i] != b' ' {
+            return false;
+        }
+        i += 1;
+    }
+    true
 }
 
 // Whether a byte is a control character, which no line may have.

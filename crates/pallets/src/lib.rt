@@ -7,6 +7,7 @@ ghost use lib.ListN.{length};
 ghost use Rattle.pallets.specs.Pallets.{fieldsOf, Ordered, measured, palletOf, said, parsed};
 use bytes::columns;
 use bytes::has_controls;
+use bytes::is_blank;
 use bytes::part_end;
 use numbers::Amount;
 use numbers::number;
@@ -105,11 +106,10 @@ fn pallet_at(s: &[u8], first: usize, second: usize, third: usize) -> Line
     requires { ⌜ (first < second) × (second < third) × (third < length (now s)) ⌝ }
     ensures { λ r. ⌜ r ≡ palletOf (now (s .entry)) first second third ⌝ }
 {
-    let wide = columns(&s[..first]);
-    if wide == 0 {
+    if is_blank(&s[..first]) {
         return Line::Bad(Fault::Note);
     }
-    if WIDEST_NOTE < wide {
+    if WIDEST_NOTE < columns(&s[..first]) {
         return Line::Bad(Fault::Note);
     }
     let force = first + 1;

@@ -6,7 +6,13 @@
 // events used, how much of output, events and work is not zero and must be, and the name.
 ghost use Prim.Native.Nat.{_≤_};
 use libc::STDOUT_FILENO;
+use rules::EVENT_WORDS;
 use sheet::Report;
+
+// Room for some more event records than a call may be lent, in words.
+const SLOTS: usize = 4100;
+
+const EVENTS: usize = SLOTS * EVENT_WORDS;
 
 fn least(a: usize, b: usize) -> usize
     ensures { λ r. ⌜ (r ≤ a) × (r ≤ b) ⌝ }
@@ -62,7 +68,7 @@ fn soiled(words: &[u32], from: usize) -> u32 {
 // Writes how a run ended and what its buffers hold, the output as words.
 fn report(r: Report, out: &[u32], events: &[u32], work: &[u32], name: &[u8]) {
     let used = least(r.used as usize, out.len());
-    let marked = least(r.marks as usize * 3, events.len());
+    let marked = least(r.marks as usize * EVENT_WORDS, events.len());
     write_number(r.answer);
     write_number(r.place.0);
     write_number(r.steps);
@@ -98,10 +104,10 @@ fn run(
 // Lays a table out in soiled buffers of these sizes.
 fn lay_out(table: &[u32], text: &[u8], width: u32, limit: u32, room: u32, slots: u32, name: &[u8]) {
     let mut out = [90u8; 65600];
-    let mut events = [1515870810u32; 12300];
+    let mut events = [1515870810u32; EVENTS];
     let mut work = [1515870810u32; 16384];
     let room = least(room as usize, 65600);
-    let words = least(slots as usize, 4100) * 3;
+    let words = least(slots as usize, SLOTS) * EVENT_WORDS;
     run(
         table,
         text,

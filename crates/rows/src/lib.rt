@@ -7,6 +7,7 @@ use footer::footer;
 use pallets::Line;
 use row::row;
 use table::NodeNo;
+use words::WHOLE;
 use words::filled;
 
 mod footer;
@@ -49,7 +50,7 @@ fn part(c: Counts, table: &mut [u32], text: &mut [u8], shared: Shared, line: &[u
     match says {
         Line::Row(p) => row(c, table, text, shared, line, p),
         Line::Heading => {
-            let made = filled(c, table, text, shared, line, 1);
+            let made = filled(c, table, text, shared, line, 1, WHOLE);
             let Made::Node(c, n) = made else {
                 return made;
             };

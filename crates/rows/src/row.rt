@@ -11,6 +11,7 @@ use crate::texts::leaf;
 use crate::texts::missing;
 use crate::texts::put;
 use crate::words::BELOW;
+use crate::words::WRAPPED;
 use crate::words::filled;
 use crate::words::skip;
 use crate::words::trimmed;
@@ -80,7 +81,7 @@ fn beside(
 // The remark filled on lines of its own.
 fn lower(c: Counts, table: &mut [u32], text: &mut [u8], shared: Shared, remark: &[u8]) -> Made {
     let hardline = shared.hardline;
-    let made = filled(c, table, text, shared, remark, 0);
+    let made = filled(c, table, text, shared, remark, 0, WRAPPED);
     let Made::Node(c, words) = made else {
         return made;
     };

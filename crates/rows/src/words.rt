@@ -10,7 +10,10 @@ use table::NodeNo;
 // How far a text is indented that goes below its row or heading, and how many of the strip's 42 columns that leaves.
 pub const BELOW: u32 = 4;
 
-const WRAPPED: usize = 38;
+pub const WRAPPED: usize = 38;
+
+// The columns of a text that is not indented.
+pub const WHOLE: usize = 42;
 
 // Words stay together up to so many columns: a place to break costs three nodes.
 const TOGETHER: usize = 12;
@@ -43,13 +46,34 @@ pub fn trimmed(s: &[u8]) -> usize
     n
 }
 
-// Where the words end that stay together from there on: at a blank once they have enough columns, and in any case before they have too many.
-fn together(s: &[u8], from: usize) -> usize
+// Whether no more goes into so many columns of words: they are enough and a blank follows, or they are all that there is room for.
+fn ends(wide: usize, b: u8, most: usize) -> bool {
+    if most <= wide {
+        return true;
+    }
+    (TOGETHER <= wide) & (b == b' ')
+}
+
+// The last blank, after one byte more.
+fn last_blank(last: usize, i: usize, b: u8) -> usize
+    requires { ⌜ last ≤ i ⌝ }
+    ensures { λ r. ⌜ (last ≤ r) × (r ≤ i) ⌝ }
+{
+    if b == b' ' {
+        return i;
+    }
+    last
+}
+
+// Where the words end that stay together from there on: at a blank once they have enough columns; else, before they have more than
+// `most`, at the last blank, so that a word is cut only if it has no room on a line of its own.
+fn together(s: &[u8], from: usize, most: usize) -> usize
     requires { ⌜ from < length (now s) ⌝ }
     ensures { λ r. ⌜ (from < r) × (r ≤ length (now (s .entry))) ⌝ }
 {
-    let mut wide: usize = 0;
-    let mut i = from;
+    let mut wide: usize = 1;
+    let mut last = from;
+    let mut i = from + 1;
     while i < s.len() {
         let b = s[i];
         let starts = (b < 128) | (191 < b);
@@ -57,12 +81,11 @@ fn together(s: &[u8], from: usize) -> usize
             i += 1;
             continue;
         }
-        if TOGETHER <= wide {
-            if b == b' ' {
-                return i;
+        last = last_blank(last, i, b);
+        if ends(wide, b, most) {
+            if from < last {
+                return last;
             }
-        }
-        if WRAPPED <= wide {
             return i;
         }
         wide += 1;
@@ -91,7 +114,7 @@ pub fn add_word(
     c.append(table, text, n, word)
 }
 
-// The words from there on, filled by softlines; of none the shared Nil.
+// The words from there on, filled by softlines on lines of so many columns; of none the shared Nil.
 pub fn filled(
     c: Counts,
     table: &mut [u32],
@@ -99,6 +122,7 @@ pub fn filled(
     shared: Shared,
     s: &[u8],
     from: usize,
+    most: usize,
 ) -> Made {
     let softline = shared.softline;
     let mut c = c;
@@ -106,7 +130,7 @@ pub fn filled(
     let mut between = n;
     let mut at = skip(s, from);
     while at < s.len() {
-        let end = together(s, at);
+        let end = together(s, at, most);
         let made = add_word(c, table, text, n, between, &s[at..end]);
         let Made::Node(next, joined) = made else {
             return made;

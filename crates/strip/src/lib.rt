@@ -1,11 +1,15 @@
 // From a chest's test results to the printed strip, or a message that names the line and what is wrong. Nothing is printed of a sheet
-// that can't be printed whole.
+// that can't be laid out whole, and a write that fails is told.
 // In order: messages; printing; the whole run.
 use build::Why;
 use pallets::Fault;
 use pallets::bytes::front;
 use pallets::input::Checked;
 use rows::Built;
+use rules::EVENT_WORDS;
+
+// Room for the most events that a call may have.
+const EVENTS: usize = 4096 * EVENT_WORDS;
 
 // ---- messages
 
@@ -34,11 +38,14 @@ fn tell_fault(fd: i32, fault: Fault) -> bool {
             fd,
             b"the ; before the remark is missing (note;force;pluck point;remark)\n",
         ),
-        Fault::Note => io::write_all(fd, b"the note has no or more than 5 characters\n"),
-        Fault::Force => io::write_all(fd, b"the force is no whole number of grams, 0 to 9999\n"),
+        Fault::Note => io::write_all(
+            fd,
+            b"the note must have 1 to 5 characters, not all of them blanks\n",
+        ),
+        Fault::Force => io::write_all(fd, b"the force is not a whole number of grams, 0 to 9999\n"),
         Fault::Pluck => io::write_all(
             fd,
-            b"the pluck point is no number of millimetres like 1.2\n",
+            b"the pluck point is not a number of millimetres like 1.2\n",
         ),
     }
 }
@@ -65,56 +72,95 @@ fn words_front(s: &[u32], n: usize) -> &[u32] {
     &s[..n]
 }
 
-// Prints one line with its margin: `! ` where a mark is open.
-fn print_line(fd: i32, line: &[u8], marked: bool) {
+// Writes a line's margin: `! ` where a mark is open.
+fn print_margin(fd: i32, marked: bool) -> bool {
     if marked {
-        io::write_all(fd, b"! ");
-    } else {
-        io::write_all(fd, b"  ");
+        return io::write_all(fd, b"! ");
     }
-    io::write_all(fd, line);
-    io::write_all(fd, b"\n");
+    io::write_all(fd, b"  ")
 }
 
-// Prints every line of the output with its margin.
-fn print_all(fd: i32, out: &[u8], events: &[u32]) {
+// Prints one line with its margin; says whether all of it was written.
+fn print_line(fd: i32, line: &[u8], marked: bool) -> bool {
+    if !print_margin(fd, marked) {
+        return false;
+    }
+    if !io::write_all(fd, line) {
+        return false;
+    }
+    io::write_all(fd, b"\n")
+}
+
+// Prints every line of the output with its margin, up to the first write that fails; says whether none did.
+fn print_all(fd: i32, out: &[u8], events: &[u32]) -> bool {
     let mut at = 0;
     while at < out.len() {
         let end = pallets::bytes::part_end(out, at, 10);
-        print_line(fd, &out[at..end], pallets::marks::marked(events, at));
+        if !print_line(fd, &out[at..end], pallets::marks::marked(events, at)) {
+            return false;
+        }
         if out.len() <= end {
-            return;
+            return true;
         }
         at = end + 1;
     }
+    true
 }
 
-// Lays the sheet out and prints it, or says what the layout answered.
-fn lay_out(table: &[u32], text: &[u8], print: i32, tell: i32) {
+// Prints the output, or tells that it is not whole: what was printed before a write failed can't be taken back.
+fn print_whole(out: &[u8], events: &[u32], print: i32, tell: i32) -> bool {
+    if print_all(print, out, events) {
+        return true;
+    }
+    io::write_all(
+        tell,
+        b"the sheet could not be written whole: do not use what was printed\n",
+    );
+    false
+}
+
+// Lays the sheet out and prints it, or says what the layout answered; gives whether it was printed whole.
+fn lay_out(table: &[u32], text: &[u8], print: i32, tell: i32) -> bool {
     let mut out = [0u8; 65536];
-    let mut events = [0u32; 12288];
+    let mut events = [0u32; EVENTS];
     let mut work = [0u32; 16384];
     let r = sheet::sheet(table, text, &mut out, &mut events, &mut work);
     if r.answer != 0 {
         io::write_all(tell, b"the layout answers ");
         io::print_decimal(tell, r.answer as u64);
         io::write_all(tell, b"\n");
-        return;
+        return false;
     }
     let used = r.used as usize;
-    let words = r.marks as usize * 3;
-    print_all(print, front(&out, used), words_front(&events, words));
+    let words = r.marks as usize * EVENT_WORDS;
+    print_whole(front(&out, used), words_front(&events, words), print, tell)
 }
 
 // ---- the whole run
 
-// Checks the results, builds their sheet, lays it out and prints it.
-pub fn run(input: &[u8], print: i32, tell: i32) {
+// The results without the byte order mark that some editors put in front of them: it is no part of the first note.
+fn unmarked(input: &[u8]) -> &[u8] {
+    if input.len() < 3 {
+        return input;
+    }
+    if (input[0] == 0xEF) & (input[1] == 0xBB) & (input[2] == 0xBF) {
+        return &input[3..];
+    }
+    input
+}
+
+// Checks the results, builds their sheet, lays it out and prints it; gives whether it was printed whole.
+pub fn run(input: &[u8], print: i32, tell: i32) -> bool {
+    let input = unmarked(input);
+    if input.len() == 0 {
+        io::write_all(tell, b"there is no input\n");
+        return false;
+    }
     let checked = pallets::input::check(input);
     if let Checked::FaultAt(line, fault) = checked {
         tell_line(tell, line);
         tell_fault(tell, fault);
-        return;
+        return false;
     }
     let mut table = [0u32; 4096];
     let mut text = [0u8; 65536];
@@ -124,16 +170,18 @@ pub fn run(input: &[u8], print: i32, tell: i32) {
             tell_line(tell, line);
             io::write_all(tell, b"this is the first line that");
             tell_full(tell, why);
+            false
         }
         Built::NoFooter(line, why) => {
             tell_line(tell, line);
             io::write_all(tell, b"the footer after this last line");
             tell_full(tell, why);
+            false
         }
         Built::Sheet(c, n) => {
             let words = n.0 as usize * 4 + 4;
             let bytes = c.bytes as usize;
-            lay_out(words_front(&table, words), front(&text, bytes), print, tell);
+            lay_out(words_front(&table, words), front(&text, bytes), print, tell)
         }
     }
 }

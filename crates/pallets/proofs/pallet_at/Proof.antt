@@ -1,4 +1,4 @@
--- `pallets::pallet_at` meets its contract: by the note's columns, then force and pluck point. Assumes nothing.
+-- `pallets::pallet_at` meets its contract: by the note's bytes and columns, then force and pluck point. Assumes nothing.
 use borrow.Author.Needs.{needs}
 use native.Mathlib.Omega.{arith}
 use mathlib.Core.Path.{sym, _∙_}
@@ -9,17 +9,23 @@ use Rattle.pallets.proofs.Saying.{no-note, long-note, pallet-is}
 use Rattle.pallets.proofs.pallet_at.Statement.{statement}
 use Rattle.pallets.proofs.pallet_at.Tie as tie
 
+slice-aggregate-is-blank : tie.Need-slice-aggregate-is-blank
+slice-aggregate-is-blank c = sym (length-take-le _ _ (omega arith))
+
+is-blank-requires : tie.Need-is-blank-requires
+is-blank-requires c κs = search needs
+
+returns : tie.Need-returns
+returns c = let a = c .before .before .before .before .args in no-note (a .s .now) (a .first) (a .second) (a .third) (sym (c .before .is-blank .ensures) ∙ c .if1 .taken)
+
 slice-aggregate-columns : tie.Need-slice-aggregate-columns
 slice-aggregate-columns c = sym (length-take-le _ _ (omega arith))
 
 columns-requires : tie.Need-columns-requires
 columns-requires c κs = search needs
 
-returns : tie.Need-returns
-returns c = no-note (c .before .before .before .before .args .s .now) (c .before .before .before .before .args .first) (c .before .before .before .before .args .second) (c .before .before .before .before .args .third) (c .before .columns .result) (c .before .columns .ensures) (c .if1 .taken)
-
 returns-2 : tie.Need-returns-2
-returns-2 c = long-note (c .before .before .before .before .before .args .s .now) (c .before .before .before .before .before .args .first) (c .before .before .before .before .before .args .second) (c .before .before .before .before .before .args .third) (c .before .before .columns .result) (c .before .before .columns .ensures) (c .if2 .taken)
+returns-2 c = let a = c .before .before .before .before .before .before .before .args in long-note (a .s .now) (a .first) (a .second) (a .third) (sym (c .before .before .before .before .is-blank .ensures) ∙ c .before .before .before .if1 .left) (c .before .columns .result) (c .before .columns .ensures) (c .if2 .taken)
 
 add-force : tie.Need-add-force
 add-force c = search needs
@@ -55,15 +61,17 @@ measured-requires : tie.Need-measured-requires
 measured-requires c κs = search needs
 
 returns-3 : tie.Need-returns-3
-returns-3 c = c .measured .ensures ∙ ap₂ (measured (c .before .before .before .before .before .before .before .before .before .before .args .first) (c .before .before .before .before .before .before .before .before .before .before .args .second) (c .before .before .before .before .before .before .before .before .before .before .args .third)) (c .before .before .before .number .ensures) (c .before .tenths .ensures) ∙ pallet-is (c .before .before .before .before .before .before .before .before .before .before .args .s .now) (c .before .before .before .before .before .before .before .before .before .before .args .first) (c .before .before .before .before .before .before .before .before .before .before .args .second) (c .before .before .before .before .before .before .before .before .before .before .args .third) (c .before .before .before .before .before .before .before .columns .result) (c .before .before .before .before .before .before .before .columns .ensures) (omega arith) (omega arith)
+returns-3 c = let a = c .before .before .before .before .before .before .before .before .before .before .before .before .args in c .measured .ensures ∙ ap₂ (measured (a .first) (a .second) (a .third)) (c .before .before .before .number .ensures) (c .before .tenths .ensures) ∙ pallet-is (a .s .now) (a .first) (a .second) (a .third) (sym (c .before .before .before .before .before .before .before .before .before .is-blank .ensures) ∙ c .before .before .before .before .before .before .before .before .if1 .left) (c .before .before .before .before .before .before .columns .result) (c .before .before .before .before .before .before .columns .ensures) (omega arith)
 
 pub pallet-at-spec : {M : Type 1} → statement M
 pallet-at-spec =
     tie.close
     (tie.spec
+    slice-aggregate-is-blank
+    is-blank-requires
+    returns
     slice-aggregate-columns
     columns-requires
-    returns
     returns-2
     add-force
     add-pluck

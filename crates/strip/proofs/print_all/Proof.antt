@@ -37,6 +37,9 @@ print-line-requires c κs = search needs
 returns : tie.Need-returns Inv-loop μ-loop
 returns c = search needs
 
+returns-2 : tie.Need-returns-2 Inv-loop μ-loop
+returns-2 c = search needs
+
 add-at : tie.Need-add-at Inv-loop μ-loop
 add-at c = search needs
 
@@ -46,8 +49,8 @@ loop-less c = search needs
 loop-again : tie.Need-loop-again Inv-loop μ-loop
 loop-again c = search needs
 
-returns-2 : tie.Need-returns-2 Inv-loop μ-loop
-returns-2 c = search needs
+returns-3 : tie.Need-returns-3 Inv-loop μ-loop
+returns-3 c = search needs
 
 pub print-all-spec : {M : Type 1} → statement M
 print-all-spec =
@@ -63,7 +66,8 @@ print-all-spec =
     marked-requires
     print-line-requires
     returns
+    returns-2
     add-at
     loop-less
     loop-again
-    returns-2)
+    returns-3)

@@ -7,10 +7,10 @@ use Rattle.rows.proofs.words.filled.Statement.{statement}
 use Rattle.rows.proofs.words.filled.Tie as tie
 
 abbrev Inv-loop : tie.InvT-loop
-Inv-loop table₀ text₀ s from softline c₀ n₀ between₀ at₀ table text c n between at = (length table ≡ length table₀) × (length text ≡ length text₀)
+Inv-loop table₀ text₀ s from most softline c₀ n₀ between₀ at₀ table text c n between at = (length table ≡ length table₀) × (length text ≡ length text₀)
 
 abbrev μ-loop : tie.MeasureT-loop
-μ-loop table₀ text₀ s from softline c₀ n₀ between₀ at₀ table text c n between at = length s - at
+μ-loop table₀ text₀ s from most softline c₀ n₀ between₀ at₀ table text c n between at = length s - at
 
 skip-requires : tie.Need-skip-requires Inv-loop μ-loop
 skip-requires c κs = search needs
