@@ -1,11 +1,11 @@
 -- What the fit test's functions promise, over the step function's `look` and `fit`.
 use mathlib.Core.Path.{_≡_}
-use Prim.Native.Nat.{ℕ, _*_, _≤_, _<_}
+use Prim.Native.Nat.{ℕ, _-_, _*_, _≤_, _<_}
 use mathlib.Core.List.{List, _∷_, _++_}
 use lib.ListN.{length}
 use Rattle.table.specs.Node.{nodeAt}
 use Rattle.table.specs.Valid.{Valid}
-use Rattle.rules.specs.Layout.{flat}
+use Rattle.rules.specs.Layout.{Mode, flat}
 use Rattle.machine.specs.Fit as machine
 use Rattle.machine.specs.Fit.{Item, item, Verdict, Walked, walk, say, reread}
 use Rattle.machine.specs.Well.{Nodes}
@@ -51,3 +51,9 @@ pub record Fitting (table w : List ℕ) (W x d c : ℕ) : Type 0 where
 pub record Fitted (table : List ℕ) (W x d c left : ℕ) (w : List ℕ) (r : Fit) (w′ : List ℕ) : Type 0 where
   pub same : Same 1024 w w′
   pub said : verdictOf r ≡ machine.fit table W left (item x flat ∷ reread (stackOf d w)) c
+
+-- so many steps on, as many numbers below n, the fit test says what it says from n
+pub record Below (table : List ℕ) (n left down : ℕ) : Type 0 where
+  pub nodes : down ≤ n
+  pub steps : down ≤ left
+  pub said : (W c : ℕ) (m : Mode) (is : List Item) → machine.fit table W (left - down) (item (n - down) m ∷ is) c ≡ machine.fit table W left (item n m ∷ is) c

@@ -1,6 +1,7 @@
 // The fit test: whether a group's child goes flat.
 //
-// An inner walk goes down a node and an outer walk over the waiting nodes; both are left by label at the first yes or no.
+// Groups in a row are gone down first. Then an inner walk goes down a node and an outer walk over the waiting nodes; both are left by label at
+// the first yes or no.
 // Not an entry point of the library: `fitting` asks a valid table and a work area of its caller.
 use table::Column;
 use table::NodeNo;
@@ -9,7 +10,7 @@ ghost use Prim.Native.Nat.{_+_, _*_, _≤_};
 ghost use lib.ListN.{length};
 ghost use Rattle.table.specs.Node.{nodeAt};
 ghost use Rattle.table.specs.Valid.{Sound};
-ghost use Rattle.fitting.specs.Fitting.{Stepped, Fitting, Fitted};
+ghost use Rattle.fitting.specs.Fitting.{Stepped, Fitting, Fitted, Below};
 
 // Where one visit leads: down to a child, with so many nodes left to walk after it; past the node, at a column; or to a yes or a no.
 pub enum Step {
@@ -71,8 +72,30 @@ fn look(
     }
 }
 
-// The group's child, flat; when that is done the waiting nodes in order, all read as broken. Nothing left says yes.
-pub fn fitting(
+// How many Groups stand in a row from a node down, each the child of the one before it and next to it in the table, as far as there are
+// steps. The next one's place is known before this one's child is read, so that a long row doesn't wait for its reads.
+fn groups_down(table: &[u32], node: NodeNo, steps: u32) -> u32
+    requires { ⌜ node .0 * 4 + 4 ≤ length (now table) ⌝ }
+    ensures { λ r. ⌜ Below (now (table .entry)) (node .0) steps r ⌝ }
+{
+    let most = if steps < node.0 { steps } else { node.0 };
+    let mut down = 0;
+    while down < most {
+        let n = node.0 - down;
+        let at = (n as usize) * 4;
+        if table[at] != 2 {
+            return down;
+        }
+        if table[at + 1] != n - 1 {
+            return down;
+        }
+        down += 1;
+    }
+    down
+}
+
+// A node, flat; when that is done the waiting nodes in order, all read as broken. Nothing left says yes.
+fn walked(
     table: &[u32],
     work: &mut [u32],
     width: u32,
@@ -126,4 +149,29 @@ pub fn fitting(
     } else {
         Fit::No(steps)
     }
+}
+
+// Whether a group's child fits, read flat, with what waits after it.
+pub fn fitting(
+    table: &[u32],
+    work: &mut [u32],
+    width: u32,
+    child: NodeNo,
+    depth: usize,
+    column: Column,
+    left: u32,
+) -> Fit
+    requires { ⌜ Fitting (now table) (now work) width (child .0) depth (column .0) ⌝ }
+    ensures { λ r. ⌜ Fitted (now (table .entry)) width (child .0) depth (column .0) left (now (work .entry)) r (now (work .exit)) ⌝ }
+{
+    let down = groups_down(table, child, left);
+    walked(
+        table,
+        work,
+        width,
+        NodeNo(child.0 - down),
+        depth,
+        column,
+        left - down,
+    )
 }

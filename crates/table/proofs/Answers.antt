@@ -56,6 +56,11 @@ pub fault-group : (n k a b c : ℕ) → k ≡ 2 → a < n → b ≡ 0 → c ≡ 
 unfolding faultOf kindAt kinds
 fault-group n k a b c two child none last text = rw (two, none, last, lt-ltb a n child)
 
+-- a Text uses all its words and has no child
+pub fault-text : (text : List ℕ) (n k a b c f : ℕ) → k ≡ 6 → f ≡ textFault text a b c → f ≡ faultOf text n k a b c
+unfolding faultOf kindAt kinds
+fault-text text n k a b c f e t = rw e t
+
 -- of a known kind, with its entry in the table of kinds
 module _ (text : List ℕ) (n k a b c : ℕ) (info : KindInfo) (known : k < 11) (entry : info ≡ kindAt k) where
   pub fault-unused : unusedZero (info .words) a b c ≡ false → 2 ≡ faultOf text n k a b c
@@ -75,10 +80,6 @@ module _ (text : List ℕ) (n k a b c : ℕ) (info : KindInfo) (known : k < 11) 
       pub fault-none : nestInRange k b c ≡ true → (k ≡ 6 → ⊥) → 0 ≡ faultOf text n k a b c
       unfolding faultOf
       fault-none m ne = rw (lt-ltb k 11 known, ← entry, u, d, m, ne-eqb k 6 ne)
-
-      pub fault-text : (f : ℕ) → f ≡ textFault text a b c → nestInRange k b c ≡ true → k ≡ 6 → f ≡ faultOf text n k a b c
-      unfolding faultOf
-      fault-text f t m e = rw (lt-ltb k 11 known, ← entry, u, d, m, eq-eqb k 6 e) t
 
 -- the words that the code reads are the node's
 pub fault-read : (table text : List ℕ) (n f : ℕ) → f ≡ faultOf text n (getD table (n * 4) 0) (getD table (n * 4 + 1) 0) (getD table (n * 4 + 2) 0) (getD table (n * 4 + 3) 0) → faultAt table text n ≡ f

@@ -188,7 +188,7 @@ fn plainly_right(n: NodeNo, k: u32, a: u32, b: u32, c: u32) -> bool
     false
 }
 
-// 0, or the first of 2, 3, 4, 5.
+// 0, or the first of 2, 3, 4, 5. A Text uses all its words and has no child, so it is looked at first, by itself.
 fn node_fault(
     text: &[u8],
     plain: bool,
@@ -202,6 +202,9 @@ fn node_fault(
     requires { ⌜ (plain ≡ ascii (now text)) × (k < 11) × (info ≡ kindAt k) ⌝ }
     ensures { λ r. ⌜ r ≡ faultOf (now (text .entry)) (n .0) k a b c ⌝ }
 {
+    if k == 6 {
+        return text_fault(text, plain, a, b, c);
+    }
     if !unused_zero(info.words, a, b, c) {
         return 2;
     }
@@ -211,10 +214,7 @@ fn node_fault(
     if !nest_in_range(k, b, c) {
         return 3;
     }
-    if k != 6 {
-        return 0;
-    }
-    text_fault(text, plain, a, b, c)
+    0
 }
 
 // ---- the whole table

@@ -1,0 +1,56 @@
+-- Groups in a row: a step down leaves what the fit test says.
+-- Assumes nothing.
+use mathlib.Core.Path.{_≡_, sym, ap, _∙_}
+use Prim.Native.Nat.{ℕ, suc, _+_, _-_, _*_, _<_}
+use native.Mathlib.Omega.{arith}
+use mathlib.Core.List.{List, _∷_}
+use lib.ListN.{getD}
+use Rattle.table.specs.Node.{Node, group, nodeAt}
+use Rattle.table.proofs.Nodes.{node-is}
+use Rattle.rules.specs.Layout.{Mode, flat}
+use Rattle.machine.specs.Fit.{Item, item, walk, say, look, fit, reread}
+use Rattle.waiting.specs.Stack.{stackOf}
+use Rattle.fitting.specs.Fitting.{Fitting, Fitted, Below}
+use Rattle.fitting.specs.declared.Fit.{Fit}
+
+-- a Group is walked through
+fit-group : (T : List ℕ) (W left x a c : ℕ) (m : Mode) (is : List Item) → nodeAt T x ≡ group a → fit T W (suc left) (item x m ∷ is) c ≡ fit T W left (item a m ∷ is) c
+unfolding fit
+fit-group T W left x a c m is e = ap (λ (v : Node). elim (look W v m is c left) [ walk is′ c′ ↦ fit T W left is′ c′ | say v′ ↦ v′ ]) e
+
+module _ (T : List ℕ) (n left : ℕ) where
+  pub row-start : Below T n left 0
+  row-start =
+      let e : left - 0 ≡ left = omega arith in
+      let f : n - 0 ≡ n = omega arith in
+      record { nodes = omega arith; steps = omega arith; said = λ W c m is. rw (e, f) }
+
+  pub row-next : (d : ℕ) → Below T n left d → d < n → d < left → getD T ((n - d) * 4) 0 ≡ 2 → getD T ((n - d) * 4 + 1) 0 ≡ n - d - 1 → Below T n left (d + 1)
+  row-next d b lt some kind child =
+      let e : left - d ≡ suc (left - (d + 1)) = omega arith in
+      let f : n - d - 1 ≡ n - (d + 1) = omega arith in
+      let g : nodeAt T (n - d) ≡ group (n - (d + 1)) = node-is T (n - d) 2 kind ∙ ap group (child ∙ f) in
+      record {
+        nodes = omega arith;
+        steps = omega arith;
+        said = λ W c m is. sym (fit-group T W (left - (d + 1)) (n - d) (n - (d + 1)) c m is g) ∙ (rw e at (b .said W c m is));
+      }
+
+-- from the end of the row to its start
+pub row-fitting : (T w : List ℕ) (W x d c left down : ℕ) → Below T x left down → Fitting T w W x d c → Fitting T w W (x - down) d c
+row-fitting T w W x d c left down b f =
+    record {
+      N = f .N;
+      valid = f .valid;
+      words = f .words;
+      small = f .small;
+      child = omega (arith, f .child);
+      nodes = f .nodes;
+      deep = f .deep;
+      area = f .area;
+      width = f .width;
+      column = f .column;
+    }
+
+pub row-fitted : (T w w′ : List ℕ) (W x d c left down : ℕ) (r : Fit) → Below T x left down → Fitted T W (x - down) d c (left - down) w r w′ → Fitted T W x d c left w r w′
+row-fitted T w w′ W x d c left down r b f = record { same = f .same; said = f .said ∙ b .said W c flat (reread (stackOf d w)) }
