@@ -1,7 +1,7 @@
 -- Groups in a row: a step down leaves what the fit test says.
 -- Assumes nothing.
 use mathlib.Core.Path.{_≡_, sym, ap, _∙_}
-use Prim.Native.Nat.{ℕ, suc, _+_, _-_, _*_, _<_}
+use Prim.Native.Nat.{ℕ, suc, _+_, _-_, _*_, _≤_, _<_}
 use native.Mathlib.Omega.{arith}
 use mathlib.Core.List.{List, _∷_}
 use lib.ListN.{getD}
@@ -10,7 +10,7 @@ use Rattle.table.proofs.Nodes.{node-is}
 use Rattle.rules.specs.Layout.{Mode, flat}
 use Rattle.machine.specs.Fit.{Item, item, walk, say, look, fit, reread}
 use Rattle.waiting.specs.Stack.{stackOf}
-use Rattle.fitting.specs.Fitting.{Fitting, Fitted, Below}
+use Rattle.fitting.specs.Fitting.{Fitting, Fitted, Known, Below}
 use Rattle.fitting.specs.declared.Fit.{Fit}
 
 -- a Group is walked through
@@ -25,18 +25,26 @@ module _ (T : List ℕ) (n left : ℕ) where
       let f : n - 0 ≡ n = omega arith in
       record { nodes = omega arith; steps = omega arith; said = λ W c m is. rw (e, f) }
 
-  pub row-next : (d : ℕ) → Below T n left d → d < n → d < left → getD T ((n - d) * 4) 0 ≡ 2 → getD T ((n - d) * 4 + 1) 0 ≡ n - d - 1 → Below T n left (d + 1)
-  row-next d b lt some kind child =
+  -- a Group at d below n, and its child next to it
+  pub row-next : (d x : ℕ) → Below T n left d → x ≡ n - d → d < left → getD T (x * 4) 0 ≡ 2 → getD T (x * 4 + 1) 0 + 1 ≡ x → Below T n left (d + 1)
+  row-next d x b here some kind child =
       let e : left - d ≡ suc (left - (d + 1)) = omega arith in
-      let f : n - d - 1 ≡ n - (d + 1) = omega arith in
-      let g : nodeAt T (n - d) ≡ group (n - (d + 1)) = node-is T (n - d) 2 kind ∙ ap group (child ∙ f) in
+      let f : getD T (x * 4 + 1) 0 ≡ n - (d + 1) = omega arith in
+      let g : nodeAt T x ≡ group (n - (d + 1)) = node-is T x 2 kind ∙ ap group f in
       record {
-        nodes = omega arith;
+        nodes = omega (arith, b .nodes);
         steps = omega arith;
-        said = λ W c m is. sym (fit-group T W (left - (d + 1)) (n - d) (n - (d + 1)) c m is g) ∙ (rw e at (b .said W c m is));
+        said = λ W c m is. sym (fit-group T W (left - (d + 1)) x (n - (d + 1)) c m is g) ∙ (rw (e, ← here) at (b .said W c m is));
       }
 
+-- what a valid table says of a Group's child
+pub child-below : (T : List ℕ) (n x : ℕ) → Known T n → x ≤ n → getD T (x * 4) 0 ≡ 2 → getD T (x * 4 + 1) 0 < x
+child-below T n x k le kind = rw (node-is T x 2 kind) at (k .valid x (omega (arith, k .node)))
+
 -- from the end of the row to its start
+pub row-known : (T w : List ℕ) (W x d c : ℕ) → Fitting T w W x d c → Known T x
+row-known T w W x d c f = record { N = f .N; size = 65536; valid = f .valid; words = f .words; node = f .child }
+
 pub row-fitting : (T w : List ℕ) (W x d c left down : ℕ) → Below T x left down → Fitting T w W x d c → Fitting T w W (x - down) d c
 row-fitting T w W x d c left down b f =
     record {

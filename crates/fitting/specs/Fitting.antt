@@ -52,6 +52,14 @@ pub record Fitted (table : List ℕ) (W x d c left : ℕ) (w : List ℕ) (r : Fi
   pub same : Same 1024 w w′
   pub said : verdictOf r ≡ machine.fit table W left (item x flat ∷ reread (stackOf d w)) c
 
+-- n is a node of a valid table
+pub record Known (table : List ℕ) (n : ℕ) : Type 0 where
+  pub N : ℕ
+  pub size : ℕ
+  pub valid : Valid table size N
+  pub words : N * 4 ≤ length table
+  pub node : n < N
+
 -- so many steps on, as many numbers below n, the fit test says what it says from n
 pub record Below (table : List ℕ) (n left down : ℕ) : Type 0 where
   pub nodes : down ≤ n

@@ -10,7 +10,7 @@ ghost use Prim.Native.Nat.{_+_, _*_, _≤_};
 ghost use lib.ListN.{length};
 ghost use Rattle.table.specs.Node.{nodeAt};
 ghost use Rattle.table.specs.Valid.{Sound};
-ghost use Rattle.fitting.specs.Fitting.{Stepped, Fitting, Fitted, Below};
+ghost use Rattle.fitting.specs.Fitting.{Stepped, Fitting, Fitted, Known, Below};
 
 // Where one visit leads: down to a child, with so many nodes left to walk after it; past the node, at a column; or to a yes or a no.
 pub enum Step {
@@ -75,21 +75,21 @@ fn look(
 // How many Groups stand in a row from a node down, each the child of the one before it and next to it in the table, as far as there are
 // steps. The next one's place is known before this one's child is read, so that a long row doesn't wait for its reads.
 fn groups_down(table: &[u32], node: NodeNo, steps: u32) -> u32
-    requires { ⌜ node .0 * 4 + 4 ≤ length (now table) ⌝ }
+    requires { ⌜ Known (now table) (node .0) ⌝ }
     ensures { λ r. ⌜ Below (now (table .entry)) (node .0) steps r ⌝ }
 {
-    let most = if steps < node.0 { steps } else { node.0 };
+    let mut n = node.0;
     let mut down = 0;
-    while down < most {
-        let n = node.0 - down;
+    while down < steps {
         let at = (n as usize) * 4;
         if table[at] != 2 {
             return down;
         }
-        if table[at + 1] != n - 1 {
+        if table[at + 1] + 1 != n {
             return down;
         }
         down += 1;
+        n -= 1;
     }
     down
 }

@@ -96,7 +96,7 @@ byMode-less : (m : Mode) (a b n : ℕ) → a < n → b < n → byMode m a b < n
 byMode-less broken a b n h g = h
 byMode-less flat a b n h g = g
 
-nested-le : (way : Way) (k i : ℕ) → nested way k i ≤ i + k
+pub nested-le : (way : Way) (k i : ℕ) → nested way k i ≤ i + k
 nested-le adds k i = omega arith
 nested-le subtracts k i = omega arith
 

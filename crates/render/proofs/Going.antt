@@ -25,7 +25,7 @@ use Rattle.lay.specs.declared.State.{State}
 use Rattle.lay.specs.declared.Turn.{Turn}
 use Rattle.lay.specs.declared.Turn.the-variants.{Go, Done, Stop}
 use Rattle.lay.proofs.Events.{length-events}
-use Rattle.render.specs.Visit.{Start, Ready, envOf}
+use Rattle.render.specs.Visit.{Start, Ready, envOf, again}
 use Rattle.render.specs.TakeUp.{takeUp, upFrom, TurnedUp}
 use Rattle.render.specs.Best.{Laid}
 
@@ -73,9 +73,17 @@ module _ (E : Env) (N : ℕ) (valid : Valid (E .table) (length (E .str)) N) wher
       by true ih t = reaches-from left left (suc (3 * left + weight w)) _ _ _ (takeUp (E .limits) (marked 0 l p) left o w) (omega arith) (omega (arith, t .5)) (t .4) (ih (t .0) (t .1) (t .3))
       by false ih t = t
 
-  -- a visit, and what is taken up after it
-  run-on : (turns : ℕ) (p : Page) (left : ℕ) (o : Bool) (e : Entry) (w : List Entry) → Well (E .limits) N p (e ∷ w) → 3 * left + weight (e ∷ w) < turns → Reaches left (3 * left + weight (e ∷ w)) (run E turns p left o (e ∷ w)) (upFrom (E .limits) (turn E p left o e w))
-  run-on turns p left o e w q lt = go (turn E p left o e w) (run-turn turns p left o e w q lt)
+  -- some turns more
+  run-again : (k left most : ℕ) (x : Report) (t : Turned) → Reaches left most x t → Reaches left most x (again E k t)
+  run-again zero left most x t h = h
+  run-again (suc k) left most x (on p l o []) h = h
+  run-again (suc k) left most x (on p l o (e ∷ w)) h =
+      run-again k left most x (turn E p l o e w) (reaches-from l left (3 * l + weight (e ∷ w)) most x _ (turn E p l o e w) (h .2) (omega (arith, h .5)) (h .4) (run-turn (h .0) p l o e w (h .1) (h .3)))
+  run-again (suc k) left most x (stop a n l) h = h
+
+  -- a visit, some turns more, and what is taken up after them
+  run-on : (turns : ℕ) (p : Page) (left : ℕ) (o : Bool) (e : Entry) (w : List Entry) (k : ℕ) → Well (E .limits) N p (e ∷ w) → 3 * left + weight (e ∷ w) < turns → Reaches left (3 * left + weight (e ∷ w)) (run E turns p left o (e ∷ w)) (upFrom (E .limits) (again E k (turn E p left o e w)))
+  run-on turns p left o e w k q lt = go (again E k (turn E p left o e w)) (run-again k left _ _ (turn E p left o e w) (run-turn turns p left o e w q lt))
     where
       go : (t : Turned) → Reaches left (3 * left + weight (e ∷ w)) (run E turns p left o (e ∷ w)) t → Reaches left (3 * left + weight (e ∷ w)) (run E turns p left o (e ∷ w)) (upFrom (E .limits) t)
       go (on p′ left′ o′ w′) h = reaches-from left′ left (suc (3 * left′ + weight w′)) _ _ _ (takeUp (E .limits) p′ left′ o′ w′) (h .2) (omega (arith, h .5)) (h .4) (run-up w′ (h .0) p′ left′ o′ (h .1) (h .3))
@@ -166,7 +174,7 @@ module _ (T tx : List ℕ) (W limit N : ℕ) where
         reach =
             let f : s .left ≡ suc (s .left - 1) = omega arith in
             let t : Reaches (E out ev) N (g .start .valid) (suc (s .left - 1)) (3 * suc (s .left - 1) + weight (top h ∷ stackOf (s .depth) w)) (run (E out ev) (g .turns) (pageOf s out ev) (suc (s .left - 1)) (flagOf (s .over)) (top h ∷ stackOf (s .depth) w)) (turnedOf r out′ ev′ w′) =
-            rw (p .turning limit .same) (run-on (E out ev) N (g .start .valid) (g .turns) (pageOf s out ev) (suc (s .left - 1)) (flagOf (s .over)) (top h) (stackOf (s .depth) w) (g .well) (omega (arith, g .enough))) in
+            rw (p .turning limit .same) (run-on (E out ev) N (g .start .valid) (g .turns) (pageOf s out ev) (suc (s .left - 1)) (flagOf (s .over)) (top h) (stackOf (s .depth) w) (p .more) (g .well) (omega (arith, g .enough))) in
             reaches-from (E out ev) N (g .start .valid) (suc (s .left - 1)) (s .left) _ _ _ _ (turnedOf r out′ ev′ w′) (omega arith) (omega arith) (sym (g .said) ∙ ap (λ (k : ℕ). run (E out ev) (g .turns) (pageOf s out ev) k (flagOf (s .over)) (top h ∷ stackOf (s .depth) w)) f) t
 
         pub going-on : (c : Hand) (a : State) → r ≡ Go a c → Going out₀ ev₀ w₀ out′ ev′ w′ c a

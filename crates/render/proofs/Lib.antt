@@ -3,3 +3,4 @@ mod Visits
 mod Rising
 mod Turns
 mod Going
+mod Again

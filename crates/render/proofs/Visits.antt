@@ -1,6 +1,6 @@
 -- A visit of the node in hand: what each kind's function asks for, and that it leads where the step function leads.
 -- Assumes nothing.
-use mathlib.Core.Path.{_≡_, refl}
+use mathlib.Core.Path.{_≡_, refl, sym}
 use Prim.Native.Nat.{ℕ, _+_, _*_, _≤_, _<_}
 use native.Mathlib.Omega.{arith}
 use mathlib.Core.List.{List, _∷_}
@@ -11,7 +11,7 @@ use Rattle.table.specs.declared.Indent.{Indent}
 use Rattle.rules.specs.Layout.{Limits, Page, nested}
 use Rattle.machine.specs.Waiting.{Entry}
 use Rattle.machine.specs.Turn.{Turned, on, visit, giveUp}
-use Rattle.machine.proofs.Kept.{nodes-of}
+use Rattle.machine.proofs.Kept.{nodes-of, nested-le}
 use Rattle.waiting.specs.Stack.{modeOf, flagOf, stackOf}
 use Rattle.waiting.specs.declared.Hand.{Hand}
 use Rattle.waiting.proofs.Laws.{flat-mode, length-stack}
@@ -22,7 +22,8 @@ use Rattle.lay.specs.Turning.{Turning, Kept, Restoring, Wrote, Annotated}
 use Rattle.lay.specs.declared.State.{State}
 use Rattle.lay.specs.declared.Turn.{Turn}
 use Rattle.lay.specs.declared.Turn.the-variants.{Go, Done}
-use Rattle.render.specs.Visit.{Ready, Visited, envOf}
+use Rattle.render.specs.declared.Nested.{Nested}
+use Rattle.render.specs.Visit.{Ready, Visited, Held, Came, envOf}
 
 module _ (T tx out ev w : List ℕ) (W : ℕ) (s : State) (h : Hand) (q : Ready T tx out ev w W s h) where
   abbrev n : ℕ
@@ -76,7 +77,7 @@ module _ (T tx out ev w : List ℕ) (W : ℕ) (s : State) (h : Hand) (q : Ready 
   visit-by : (k : ℕ) (r : Turn) (out′ ev′ w′ : List ℕ) → getD T (n * 4) 0 ≡ k
       → ((limit : ℕ) → Turning r out′ ev′ w′ (leads k limit))
       → Visited T tx out ev w W s h r out′ ev′ w′
-  visit-by k r out′ ev′ w′ e t = record { turning = λ limit. rw (node-is T n k e) (t limit) }
+  visit-by k r out′ ev′ w′ e t = record { more = 0; turning = λ limit. rw (node-is T n k e) (t limit) }
 
   pub visit-nil : getD T (n * 4) 0 ≡ 0 → Visited T tx out ev w W s h (Done s) out ev w
   visit-nil e = visit-by 0 (Done s) out ev w e (λ limit. record { same = refl; used = q .used; marks = q .marks })
@@ -100,9 +101,32 @@ module _ (T tx out ev w : List ℕ) (W : ℕ) (s : State) (h : Hand) (q : Ready 
   pub visit-flat : (c : Hand) → getD T (n * 4) 0 ≡ 3 → (h .mode .0 ≡ 0 → ⊥) → c ≡ handOf (getD T (n * 4 + 2) 0) (h .indent .0) (h .mode .0) → Visited T tx out ev w W s h (Go s c) out ev w
   visit-flat c e z ec = visit-child 3 c e (λ limit. rw (ec, flat-mode (h .mode .0) z))
 
-  pub visit-nest : (i : Indent) → getD T (n * 4) 0 ≡ 4 → i .0 ≡ nested (wayOf (getD T (n * 4 + 3) 0)) (getD T (n * 4 + 2) 0) (h .indent .0)
-      → Visited T tx out ev w W s h (Go s (record { node = record { 0 = getD T (n * 4 + 1) 0 }; indent = i; mode = h .mode })) out ev w
-  visit-nest i e ei = visit-child 4 _ e (λ limit. rw ei)
+  -- a Nest, and those in a row below it
+  module _ (i : Indent) (e : getD T (n * 4) 0 ≡ 4) (ei : i .0 ≡ nested (wayOf (getD T (n * 4 + 3) 0)) (getD T (n * 4 + 2) 0) (h .indent .0)) where
+    abbrev below : Hand
+    below = record { node = record { 0 = getD T (n * 4 + 1) 0 }; indent = i; mode = h .mode }
+
+    pub nest-held : Held T below
+    nest-held =
+        let g = sound 4 e in
+        record {
+          known = record { N = q .N; size = length tx; valid = q .start .valid; words = q .start .words; node = omega (arith, g .0, node-in) };
+          small = q .start .small;
+          indent = omega (arith, g .0, g .1, q .stack .1, nested-le (wayOf (getD T (n * 4 + 3) 0)) (getD T (n * 4 + 2) 0) (h .indent .0));
+        }
+
+    pub visit-nest : (r : Nested) → Came T (s .left) below r
+        → Visited T tx out ev w W s h (Go (record { column = s .column; used = s .used; marks = s .marks; left = r .left; over = s .over; depth = s .depth }) (r .hand)) out ev w
+    visit-nest r c =
+        record {
+          more = c .more;
+          turning = λ limit.
+              record {
+                same = sym (rw (node-is T n 4 e, ← ei) (c .said (envOf T tx out ev W limit) (pageOf s out ev) (flagOf (s .over)) (stackOf (s .depth) w) refl));
+                used = q .used;
+                marks = q .marks;
+              };
+        }
 
   pub visit-align : (i : Indent) → getD T (n * 4) 0 ≡ 9 → i .0 ≡ s .column .0
       → Visited T tx out ev w W s h (Go s (record { node = record { 0 = getD T (n * 4 + 1) 0 }; indent = i; mode = h .mode })) out ev w
@@ -122,4 +146,4 @@ module _ (T tx out ev w : List ℕ) (W : ℕ) (s : State) (h : Hand) (q : Ready 
       visit-by 7 r out ev′ w′ e (λ limit. rw (← (is limit)) (p .turning (envOf T tx out ev W limit .limits) out refl (q .used)))
 
   pub visit-fail : (r : Turn) → nodeAt T n ≡ fail → Restoring s w r (λ p. giveUp p (s .left) (stackOf (s .depth) w)) → Visited T tx out ev w W s h r out ev w
-  visit-fail r e p = record { turning = λ limit. rw e (p .turning out ev (q .N) (q .used) (q .marks) (q .stack .2)) }
+  visit-fail r e p = record { more = 0; turning = λ limit. rw e (p .turning out ev (q .N) (q .used) (q .marks) (q .stack .2)) }

@@ -18,7 +18,7 @@ use Rattle.lay.specs.Turning.{Turning}
 use Rattle.lay.specs.declared.State.{State}
 use Rattle.lay.specs.declared.Turn.{Turn}
 use Rattle.lay.specs.declared.Turn.the-variants.{Done}
-use Rattle.render.specs.Visit.{envOf, visited}
+use Rattle.render.specs.Visit.{envOf, visited, again}
 
 -- several turns of the step function in one
 unfoldable pub takeUp : Limits → Page → ℕ → Bool → List Entry → Turned
@@ -40,5 +40,6 @@ pub record TakenUp (s : State) (ev w : List ℕ) (r : Turn) (ev′ : List ℕ) :
 
 -- a visit, and what is taken up after it
 pub record TurnedUp (T tx out ev w : List ℕ) (W : ℕ) (s : State) (h : Hand) (r : Turn) (out′ ev′ w′ : List ℕ) : Type 0 where
-  pub turning : (limit : ℕ) → Turning r out′ ev′ w′ (upFrom (envOf T tx out ev W limit .limits) (visited T tx out ev w W limit s h))
+  pub more : ℕ
+  pub turning : (limit : ℕ) → Turning r out′ ev′ w′ (upFrom (envOf T tx out ev W limit .limits) (again (envOf T tx out ev W limit) more (visited T tx out ev w W limit s h)))
   pub empty : (q : State) → r ≡ Done q → q .depth ≡ 0

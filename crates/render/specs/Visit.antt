@@ -1,18 +1,24 @@
 -- What a run starts from; what a visit of the node in hand starts from, and what it promises.
-use Prim.Native.Nat.{ℕ, _*_, _/_, _≤_, _<_}
-use mathlib.Core.List.{List, _∷_}
+use mathlib.Core.Path.{_≡_}
+use Prim.Native.Nat.{ℕ, zero, suc, _+_, _*_, _/_, _≤_, _<_}
+use mathlib.Core.Bool.{Bool}
+use mathlib.Core.List.{List, [], _∷_}
 use lib.ListN.{length}
 use Rattle.rules.specs.Call.{eventWords}
 use Rattle.table.specs.Node.{nodeAt}
 use Rattle.table.specs.Valid.{Valid}
-use Rattle.machine.specs.Turn.{Env, Turned, visit}
+use Rattle.rules.specs.Layout.{Page}
+use Rattle.machine.specs.Waiting.{Entry}
+use Rattle.machine.specs.Turn.{Env, Turned, on, stop, turn, visit}
 use Rattle.machine.specs.Well.{Stacked}
 use Rattle.waiting.specs.Stack.{modeOf, flagOf, stackOf}
 use Rattle.waiting.specs.declared.Hand.{Hand}
+use Rattle.fitting.specs.Fitting.{Known}
 use Rattle.lay.specs.State.{top, pageOf}
 use Rattle.lay.specs.Turning.{Turning}
 use Rattle.lay.specs.declared.State.{State}
 use Rattle.lay.specs.declared.Turn.{Turn}
+use Rattle.render.specs.declared.Nested.{Nested}
 
 -- table, text, output, events, width and limit, as the step function has them
 abbrev pub envOf : List ℕ → List ℕ → List ℕ → List ℕ → ℕ → ℕ → Env
@@ -45,5 +51,25 @@ abbrev pub visited : List ℕ → List ℕ → List ℕ → List ℕ → List �
 visited T tx out ev w W limit s h =
     visit (envOf T tx out ev W limit) (h .node .0) (nodeAt T (h .node .0)) (h .indent .0) (modeOf (h .mode .0)) (pageOf s out ev) (s .left) (flagOf (s .over)) (stackOf (s .depth) w)
 
+-- so many turns of the step function more
+abbrev pub again : Env → ℕ → Turned → Turned
+again E zero t = t
+again E (suc k) (on p left over []) = on p left over []
+again E (suc k) (on p left over (e ∷ w)) = again E k (turn E p left over e w)
+again E (suc k) (stop a n left) = stop a n left
+
+-- it leads where the step function leads, by the visit and some turns more
 pub record Visited (T tx out ev w : List ℕ) (W : ℕ) (s : State) (h : Hand) (r : Turn) (out′ ev′ w′ : List ℕ) : Type 0 where
-  pub turning : (limit : ℕ) → Turning r out′ ev′ w′ (visited T tx out ev w W limit s h)
+  pub more : ℕ
+  pub turning : (limit : ℕ) → Turning r out′ ev′ w′ (again (envOf T tx out ev W limit) more (visited T tx out ev w W limit s h))
+
+-- a node in hand of a valid table, its indentation within what its number allows
+pub record Held (T : List ℕ) (h : Hand) : Type 0 where
+  pub known : Known T (h .node .0)
+  pub small : known .N ≤ 1024
+  pub indent : h .indent .0 + 1000 * suc (h .node .0) ≤ 65536 + 1000 * known .N
+
+-- from h with so many steps left the step function comes to r, and nothing but the node in hand has changed
+pub record Came (T : List ℕ) (left : ℕ) (h : Hand) (r : Nested) : Type 0 where
+  pub more : ℕ
+  pub said : (E : Env) (p : Page) (over : Bool) (w : List Entry) → E .table ≡ T → again E more (on p left over (top h ∷ w)) ≡ on p (r .left) over (top (r .hand) ∷ w)

@@ -12,7 +12,7 @@ use waiting::Mode;
 ghost use Prim.Native.Nat.{_+_, _*_, _/_, _≤_, _<_};
 ghost use lib.ListN.{length};
 ghost use Rattle.rules.specs.Call.{eventWords};
-ghost use Rattle.render.specs.Visit.{Start, Ready, Visited};
+ghost use Rattle.render.specs.Visit.{Start, Ready, Visited, Held, Came};
 ghost use Rattle.render.specs.TakeUp.{TakenUp, TurnedUp};
 ghost use Rattle.render.specs.Best.{Laid};
 
@@ -23,6 +23,41 @@ pub struct End {
     pub left: u32,
     pub used: u32,
     pub marks: u32,
+}
+
+// A node in hand, and the steps left.
+pub struct Nested {
+    pub left: u32,
+    pub hand: Hand,
+}
+
+// Nests in a row are gone down from the node in hand, each the child of the one before it and next to it in the table, as far as there are
+// steps. The next one's place is known before this one's child is read, so that a long row doesn't wait for its reads.
+fn nests_down(table: &[u32], steps: u32, start: Hand) -> Nested
+    requires { ⌜ Held (now table) start ⌝ }
+    ensures { λ r. ⌜ Came (now (table .entry)) steps start r ⌝ }
+{
+    let mut left = steps;
+    let mut hand = start;
+    while 0 < left {
+        let n = hand.node.0;
+        let at = (n as usize) * 4;
+        if table[at] != 4 {
+            return Nested { left, hand };
+        }
+        if table[at + 1] + 1 != n {
+            return Nested { left, hand };
+        }
+        let indent = lay::nest_by(hand.indent, table[at + 2], table[at + 3]);
+        let mode = hand.mode;
+        hand = Hand {
+            node: NodeNo(n - 1),
+            indent,
+            mode,
+        };
+        left -= 1;
+    }
+    Nested { left, hand }
 }
 
 // The node in hand is visited.
@@ -57,14 +92,16 @@ fn visit(
         },
         4 => {
             let indent = lay::nest_by(own, b, c);
-            Turn::Go(
-                s,
-                Hand {
-                    node: NodeNo(a),
-                    indent,
-                    mode,
-                },
-            )
+            let child = Hand {
+                node: NodeNo(a),
+                indent,
+                mode,
+            };
+            let row = nests_down(table, s.left, child);
+            let last = row.hand;
+            let mut next = s;
+            next.left = row.left;
+            Turn::Go(next, last)
         }
         5 => lay::lay_hardline(out, work, s, own),
         6 => lay::lay_text(text, out, width, s, a, b, c),

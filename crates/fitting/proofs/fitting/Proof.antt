@@ -1,12 +1,12 @@
 -- `fitting::fitting` meets its contract: what a walk says from the end of the row of groups it says from its start.
 -- Assumes nothing.
 use borrow.Author.Needs.{needs}
-use Rattle.fitting.proofs.Row.{row-fitting, row-fitted}
+use Rattle.fitting.proofs.Row.{row-known, row-fitting, row-fitted}
 use Rattle.fitting.proofs.fitting.Statement.{statement}
 use Rattle.fitting.proofs.fitting.Tie as tie
 
 groups-down-requires : tie.Need-groups-down-requires
-groups-down-requires c κs = search needs
+groups-down-requires c κs = row-known _ _ _ _ _ _ (c .before .before .pre)
 
 sub-t11 : tie.Need-sub-t11
 sub-t11 c = search needs

@@ -1,7 +1,7 @@
 -- `render::visit` meets its contract: an arm for each kind, by the law that Visits.antt has for it.
 -- Assumes nothing.
 use Rattle.table.proofs.Nodes.{node-fail}
-use Rattle.render.proofs.Visits.{depth-small, group-fits, nest-fits, text-fits, visit-nil, visit-kept, visit-broken, visit-flat, visit-nest, visit-align, visit-wrote, visit-annotated, visit-fail}
+use Rattle.render.proofs.Visits.{depth-small, group-fits, nest-fits, nest-held, text-fits, visit-nil, visit-kept, visit-broken, visit-flat, visit-nest, visit-align, visit-wrote, visit-annotated, visit-fail}
 use borrow.Author.Needs.{needs}
 use native.Mathlib.Omega.{arith}
 use mathlib.Core.Path.{refl}
@@ -62,6 +62,9 @@ child-of-requires-2 c κs = search needs
 nest-by-requires : tie.Need-nest-by-requires
 nest-by-requires c κs = let s = c .before .before .before .before .before .before .before .before .before .before .before .before .before in nest-fits _ _ _ _ _ _ _ (s .args .hand) (s .pre) (c .match .keys5)
 
+nests-down-requires : tie.Need-nests-down-requires
+nests-down-requires c κs = let s = c .before .before .before .before .before .before .before .before .before .before .before .before .before .before in nest-held _ _ _ _ _ _ _ _ (s .pre) _ (c .before .match .keys5) (c .nest-by .ensures)
+
 lay-hardline-requires : tie.Need-lay-hardline-requires
 lay-hardline-requires c κs = let s = c .before .before .before .before .before .before .before .before .before .before .before .before .before .before .before in (omega (arith, depth-small _ _ _ _ _ _ _ (s .args .hand) (s .pre)), omega (arith, s .pre .start .area), s .pre .used, s .pre .start .room)
 
@@ -102,7 +105,7 @@ returns-5 : tie.Need-returns-5
 returns-5 c = let s = c .before .before .before .before .before .before .before .before .before .before .before .before .before .before .before .before in visit-flat _ _ _ _ _ _ _ _ (s .pre) _ (c .before .before .before .match .keys4) (c .before .if1 .left) (c .child-of2 .ensures)
 
 returns-6 : tie.Need-returns-6
-returns-6 c = let s = c .before .before .before .before .before .before .before .before .before .before .before .before .before .before in visit-nest _ _ _ _ _ _ _ _ (s .pre) _ (c .before .match .keys5) (c .nest-by .ensures)
+returns-6 c = let s = c .before .before .before .before .before .before .before .before .before .before .before .before .before .before .before .before in visit-nest _ _ _ _ _ _ _ _ (s .pre) _ (c .before .before .before .match .keys5) (c .before .before .nest-by .ensures) _ (c .before .nests-down .ensures)
 
 same-length-3 : tie.Need-same-length-3
 same-length-3 c = search needs
@@ -167,6 +170,7 @@ visit-spec =
     child-of-requires
     child-of-requires-2
     nest-by-requires
+    nests-down-requires
     lay-hardline-requires
     lay-text-requires
     lay-annotated-requires
