@@ -24,20 +24,6 @@ pub fn below_128(bytes: &[u8]) -> bool
 // Bytes that are looked at together.
 const BLOCK: usize = 32;
 
-// Whether the block from `at` on is below 128. It is read to its end, as one.
-fn block_below_128(text: &[u8], at: usize) -> bool
-    requires { ⌜ at + 32 ≤ length (now text) ⌝ }
-    ensures { λ r. ⌜ r ≡ ascii (take 32 (drop at (now (text .entry)))) ⌝ }
-{
-    let mut low = true;
-    let mut seen = 0;
-    while seen < BLOCK {
-        low = low & (text[at + seen] < 128);
-        seen += 1;
-    }
-    low
-}
-
 // Whether a part is seen at once to be below 128: all of the text is, or the block that starts with it. No is no answer.
 pub fn plainly_below_128(text: &[u8], plain: bool, at: usize, n: usize) -> bool
     requires { ⌜ (plain ≡ ascii (now text)) × (at + n ≤ length (now text)) ⌝ }
@@ -47,7 +33,7 @@ pub fn plainly_below_128(text: &[u8], plain: bool, at: usize, n: usize) -> bool
         return true;
     }
     if n <= BLOCK && BLOCK <= text.len() - at {
-        return block_below_128(text, at);
+        return below_128(&text[at..at + BLOCK]);
     }
     false
 }
