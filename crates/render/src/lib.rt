@@ -60,7 +60,7 @@ fn nests_down(table: &[u32], steps: u32, start: Hand) -> Nested
     Nested { left, hand }
 }
 
-// The node in hand is visited.
+// The node in hand is visited. A word is read where it is used: read all at once they would take the registers of others.
 fn visit(
     table: &[u32],
     text: &[u8],
@@ -77,21 +77,19 @@ fn visit(
     let at = (hand.node.0 as usize) * 4;
     let kind = table[at];
     let a = table[at + 1];
-    let b = table[at + 2];
-    let c = table[at + 3];
     let own = hand.indent;
     let mode = hand.mode;
     match kind {
         0 => Turn::Done(s),
-        1 => lay::lay_append(work, s, hand, a, b),
+        1 => lay::lay_append(work, s, hand, a, table[at + 2]),
         2 => lay::lay_group(table, work, width, s, hand, a),
         3 => if mode.0 == 0 {
             Turn::Go(s, lay::child_of(hand, a))
         } else {
-            Turn::Go(s, lay::child_of(hand, b))
+            Turn::Go(s, lay::child_of(hand, table[at + 2]))
         },
         4 => {
-            let indent = lay::nest_by(own, b, c);
+            let indent = lay::nest_by(own, table[at + 2], table[at + 3]);
             let child = Hand {
                 node: NodeNo(a),
                 indent,
@@ -104,9 +102,9 @@ fn visit(
             Turn::Go(next, last)
         }
         5 => lay::lay_hardline(out, work, s, own),
-        6 => lay::lay_text(text, out, width, s, a, b, c),
-        7 => lay::lay_annotated(events, work, s, hand, a, b),
-        8 => lay::lay_union(work, s, hand, a, b),
+        6 => lay::lay_text(text, out, width, s, a, table[at + 2], table[at + 3]),
+        7 => lay::lay_annotated(events, work, s, hand, a, table[at + 2]),
+        8 => lay::lay_union(work, s, hand, a, table[at + 2]),
         9 => {
             let column = s.column;
             let indent = column.to_indent();
@@ -124,7 +122,7 @@ fn visit(
 }
 
 // A node is done: ends are taken up, until a node goes on or nothing waits.
-fn take_up(events: &mut [u32], work: &[u32], state: State) -> Turn
+fn take_up_ends(events: &mut [u32], work: &[u32], state: State) -> Turn
     requires { ⌜ (state .depth ≤ 1024) × (8192 ≤ length (now work)) × (state .marks * eventWords ≤ length (now events)) × (length (now events) / eventWords ≤ 4096) × (state .used ≤ 65536) ⌝ }
     ensures { λ r. ⌜ TakenUp state (now (events .entry)) (now (work .entry)) r (now (events .exit)) ⌝ }
 {
@@ -151,6 +149,22 @@ fn take_up(events: &mut [u32], work: &[u32], state: State) -> Turn
         s.depth = d;
     }
     Turn::Done(s)
+}
+
+// The same. Mostly a node is on top, and no end is to be taken up.
+fn take_up(events: &mut [u32], work: &[u32], state: State) -> Turn
+    requires { ⌜ (state .depth ≤ 1024) × (8192 ≤ length (now work)) × (state .marks * eventWords ≤ length (now events)) × (length (now events) / eventWords ≤ 4096) × (state .used ≤ 65536) ⌝ }
+    ensures { λ r. ⌜ TakenUp state (now (events .entry)) (now (work .entry)) r (now (events .exit)) ⌝ }
+{
+    if 0 < state.depth {
+        let d = state.depth - 1;
+        if work[d * 4 + 3] == waiting::NODE {
+            let mut s = state;
+            s.depth = d;
+            return Turn::Go(s, waiting::hand_at(work, d));
+        }
+    }
+    take_up_ends(events, work, state)
 }
 
 // A visit, and what waits after it.

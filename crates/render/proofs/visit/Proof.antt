@@ -2,9 +2,9 @@
 -- Assumes nothing.
 use Rattle.table.proofs.Nodes.{node-fail}
 use Rattle.render.proofs.Visits.{depth-small, group-fits, nest-fits, nest-held, text-fits, visit-nil, visit-kept, visit-broken, visit-flat, visit-nest, visit-align, visit-wrote, visit-annotated, visit-fail}
-use borrow.Author.Needs.{needs}
 use native.Mathlib.Omega.{arith}
 use mathlib.Core.Path.{refl}
+use borrow.Author.Needs.{needs}
 use Rattle.render.proofs.visit.Statement.{statement}
 use Rattle.render.proofs.visit.Tie as tie
 
@@ -29,83 +29,137 @@ mul-a c = search needs
 shared-slice-read-a : tie.Need-shared-slice-read-a
 shared-slice-read-a c = search needs
 
-add-b : tie.Need-add-b
-add-b c = search needs
+add-lay-append : tie.Need-add-lay-append
+add-lay-append c = search needs
 
-mul-b : tie.Need-mul-b
-mul-b c = search needs
+mul-lay-append : tie.Need-mul-lay-append
+mul-lay-append c = search needs
 
-shared-slice-read-b : tie.Need-shared-slice-read-b
-shared-slice-read-b c = search needs
-
-add-c : tie.Need-add-c
-add-c c = search needs
-
-mul-c : tie.Need-mul-c
-mul-c c = search needs
-
-shared-slice-read-c : tie.Need-shared-slice-read-c
-shared-slice-read-c c = search needs
+shared-slice-read-lay-append : tie.Need-shared-slice-read-lay-append
+shared-slice-read-lay-append c = search needs
 
 lay-append-requires : tie.Need-lay-append-requires
-lay-append-requires c κs = let s = c .before .before .before .before .before .before .before .before .before .before .before .before .before .before in (depth-small _ _ _ _ _ _ _ (s .args .hand) (s .pre), omega (arith, s .pre .start .area))
+lay-append-requires c κs = let s = c .before .before .before .before .before .before .before .before .before .before .before .before .before in (depth-small _ _ _ _ _ _ _ (s .args .hand) (s .pre), omega (arith, s .pre .start .area))
 
 lay-group-requires : tie.Need-lay-group-requires
-lay-group-requires c κs = let s = c .before .before .before .before .before .before .before .before .before .before .before .before .before .before in group-fits _ _ _ _ _ _ _ (s .args .hand) (s .pre) (c .before .match .keys3)
+lay-group-requires c κs = let s = c .before .before .before .before .before .before .before .before .before .before .before .before in group-fits _ _ _ _ _ _ _ (s .args .hand) (s .pre) (c .before .match .keys3)
 
 child-of-requires : tie.Need-child-of-requires
 child-of-requires c κs = search needs
 
+add-child-of : tie.Need-add-child-of
+add-child-of c = search needs
+
+mul-child-of : tie.Need-mul-child-of
+mul-child-of c = search needs
+
+shared-slice-read-child-of : tie.Need-shared-slice-read-child-of
+shared-slice-read-child-of c = search needs
+
 child-of-requires-2 : tie.Need-child-of-requires-2
 child-of-requires-2 c κs = search needs
 
+add-nest-by : tie.Need-add-nest-by
+add-nest-by c = search needs
+
+mul-nest-by : tie.Need-mul-nest-by
+mul-nest-by c = search needs
+
+shared-slice-read-nest-by : tie.Need-shared-slice-read-nest-by
+shared-slice-read-nest-by c = search needs
+
+add-nest-by-2 : tie.Need-add-nest-by-2
+add-nest-by-2 c = search needs
+
+mul-nest-by-2 : tie.Need-mul-nest-by-2
+mul-nest-by-2 c = search needs
+
+shared-slice-read-nest-by-2 : tie.Need-shared-slice-read-nest-by-2
+shared-slice-read-nest-by-2 c = search needs
+
 nest-by-requires : tie.Need-nest-by-requires
-nest-by-requires c κs = let s = c .before .before .before .before .before .before .before .before .before .before .before .before .before in nest-fits _ _ _ _ _ _ _ (s .args .hand) (s .pre) (c .match .keys5)
+nest-by-requires c κs = let s = c .before .before .before .before .before .before .before .before .before .before .before .before .before in nest-fits _ _ _ _ _ _ _ (s .args .hand) (s .pre) (c .before .before .match .keys5)
 
 nests-down-requires : tie.Need-nests-down-requires
-nests-down-requires c κs = let s = c .before .before .before .before .before .before .before .before .before .before .before .before .before .before in nest-held _ _ _ _ _ _ _ _ (s .pre) _ (c .before .match .keys5) (c .nest-by .ensures)
+nests-down-requires c κs = let s = c .before .before .before .before .before .before .before .before .before .before .before .before .before .before in nest-held _ _ _ _ _ _ _ _ (s .pre) _ (c .before .before .before .match .keys5) (c .nest-by .ensures)
 
 lay-hardline-requires : tie.Need-lay-hardline-requires
-lay-hardline-requires c κs = let s = c .before .before .before .before .before .before .before .before .before .before .before .before .before .before .before in (omega (arith, depth-small _ _ _ _ _ _ _ (s .args .hand) (s .pre)), omega (arith, s .pre .start .area), s .pre .used, s .pre .start .room)
+lay-hardline-requires c κs = let s = c .before .before .before .before .before .before .before .before .before .before .before .before .before in (omega (arith, depth-small _ _ _ _ _ _ _ (s .args .hand) (s .pre)), omega (arith, s .pre .start .area), s .pre .used, s .pre .start .room)
+
+add-lay-text : tie.Need-add-lay-text
+add-lay-text c = search needs
+
+mul-lay-text : tie.Need-mul-lay-text
+mul-lay-text c = search needs
+
+shared-slice-read-lay-text : tie.Need-shared-slice-read-lay-text
+shared-slice-read-lay-text c = search needs
+
+add-lay-text-2 : tie.Need-add-lay-text-2
+add-lay-text-2 c = search needs
+
+mul-lay-text-2 : tie.Need-mul-lay-text-2
+mul-lay-text-2 c = search needs
+
+shared-slice-read-lay-text-2 : tie.Need-shared-slice-read-lay-text-2
+shared-slice-read-lay-text-2 c = search needs
 
 lay-text-requires : tie.Need-lay-text-requires
-lay-text-requires c κs = let s = c .before .before .before .before .before .before .before .before .before .before .before .before .before .before in text-fits _ _ _ _ _ _ _ (s .args .hand) (s .pre) (c .before .match .keys7)
+lay-text-requires c κs = let s = c .before .before .before .before .before .before .before .before .before .before .before .before .before .before in text-fits _ _ _ _ _ _ _ (s .args .hand) (s .pre) (c .before .before .before .match .keys7)
+
+add-lay-annotated : tie.Need-add-lay-annotated
+add-lay-annotated c = search needs
+
+mul-lay-annotated : tie.Need-mul-lay-annotated
+mul-lay-annotated c = search needs
+
+shared-slice-read-lay-annotated : tie.Need-shared-slice-read-lay-annotated
+shared-slice-read-lay-annotated c = search needs
 
 lay-annotated-requires : tie.Need-lay-annotated-requires
-lay-annotated-requires c κs = let s = c .before .before .before .before .before .before .before .before .before .before .before .before .before .before .before in (depth-small _ _ _ _ _ _ _ (s .args .hand) (s .pre), omega (arith, s .pre .start .area), s .pre .marks, s .pre .start .slots, omega (arith, s .pre .used, s .pre .start .room))
+lay-annotated-requires c κs = let s = c .before .before .before .before .before .before .before .before .before .before .before .before .before .before in (depth-small _ _ _ _ _ _ _ (s .args .hand) (s .pre), omega (arith, s .pre .start .area), s .pre .marks, s .pre .start .slots, omega (arith, s .pre .used, s .pre .start .room))
+
+add-lay-union : tie.Need-add-lay-union
+add-lay-union c = search needs
+
+mul-lay-union : tie.Need-mul-lay-union
+mul-lay-union c = search needs
+
+shared-slice-read-lay-union : tie.Need-shared-slice-read-lay-union
+shared-slice-read-lay-union c = search needs
 
 lay-union-requires : tie.Need-lay-union-requires
-lay-union-requires c κs = let s = c .before .before .before .before .before .before .before .before .before .before .before .before .before .before in (depth-small _ _ _ _ _ _ _ (s .args .hand) (s .pre), omega (arith, s .pre .start .area), omega (arith, s .pre .used, s .pre .start .room), omega (arith, s .pre .marks, s .pre .start .slots))
+lay-union-requires c κs = let s = c .before .before .before .before .before .before .before .before .before .before .before .before .before in (depth-small _ _ _ _ _ _ _ (s .args .hand) (s .pre), omega (arith, s .pre .start .area), omega (arith, s .pre .used, s .pre .start .room), omega (arith, s .pre .marks, s .pre .start .slots))
 
 to-indent-requires : tie.Need-to-indent-requires
 to-indent-requires c κs = search needs
 
 lay-fail-requires : tie.Need-lay-fail-requires
-lay-fail-requires c κs = let s = c .before .before .before .before .before .before .before .before .before .before .before .before .before .before in (omega (arith, depth-small _ _ _ _ _ _ _ (s .args .hand) (s .pre)), omega (arith, s .pre .start .area))
+lay-fail-requires c κs = let s = c .before .before .before .before .before .before .before .before .before .before .before .before in (omega (arith, depth-small _ _ _ _ _ _ _ (s .args .hand) (s .pre)), omega (arith, s .pre .start .area))
 
 returns : tie.Need-returns
-returns c = let s = c .before .before .before .before .before .before .before .before .before .before .before .before .before in visit-nil _ _ _ _ _ _ _ _ (s .pre) (c .match .keys1)
+returns c = let s = c .before .before .before .before .before .before .before .before .before .before .before in visit-nil _ _ _ _ _ _ _ _ (s .pre) (c .match .keys1)
 
 same-length : tie.Need-same-length
 same-length c = search needs
 
 returns-2 : tie.Need-returns-2
-returns-2 c = let s = c .before .before .before .before .before .before .before .before .before .before .before .before .before .before .before .before .before in visit-kept _ _ _ _ _ _ _ _ (s .pre) 1 _ _ _ (c .before .before .before .before .match .keys2) (c .before .before .lay-append .ensures) (λ limit. refl)
+returns-2 c = let s = c .before .before .before .before .before .before .before .before .before .before .before .before .before .before .before .before in visit-kept _ _ _ _ _ _ _ _ (s .pre) 1 _ _ _ (c .before .before .before .before .before .match .keys2) (c .before .before .lay-append .ensures) (λ limit. refl)
 
 same-length-2 : tie.Need-same-length-2
 same-length-2 c = search needs
 
 returns-3 : tie.Need-returns-3
-returns-3 c = let s = c .before .before .before .before .before .before .before .before .before .before .before .before .before .before .before .before .before in visit-kept _ _ _ _ _ _ _ _ (s .pre) 2 _ _ _ (c .before .before .before .before .match .keys3) (c .before .before .lay-group .ensures) (λ limit. refl)
+returns-3 c = let s = c .before .before .before .before .before .before .before .before .before .before .before .before .before .before .before in visit-kept _ _ _ _ _ _ _ _ (s .pre) 2 _ _ _ (c .before .before .before .before .match .keys3) (c .before .before .lay-group .ensures) (λ limit. refl)
 
 returns-4 : tie.Need-returns-4
-returns-4 c = let s = c .before .before .before .before .before .before .before .before .before .before .before .before .before .before .before .before in visit-broken _ _ _ _ _ _ _ _ (s .pre) _ (c .before .before .before .match .keys4) (c .before .if1 .taken) (c .child-of .ensures)
+returns-4 c = let s = c .before .before .before .before .before .before .before .before .before .before .before .before .before .before in visit-broken _ _ _ _ _ _ _ _ (s .pre) _ (c .before .before .before .match .keys4) (c .before .if1 .taken) (c .child-of .ensures)
 
 returns-5 : tie.Need-returns-5
-returns-5 c = let s = c .before .before .before .before .before .before .before .before .before .before .before .before .before .before .before .before in visit-flat _ _ _ _ _ _ _ _ (s .pre) _ (c .before .before .before .match .keys4) (c .before .if1 .left) (c .child-of2 .ensures)
+returns-5 c = let s = c .before .before .before .before .before .before .before .before .before .before .before .before .before .before .before in visit-flat _ _ _ _ _ _ _ _ (s .pre) _ (c .before .before .before .before .match .keys4) (c .before .before .if1 .left) (c .child-of2 .ensures)
 
 returns-6 : tie.Need-returns-6
-returns-6 c = let s = c .before .before .before .before .before .before .before .before .before .before .before .before .before .before .before .before in visit-nest _ _ _ _ _ _ _ _ (s .pre) _ (c .before .before .before .match .keys5) (c .before .before .nest-by .ensures) _ (c .before .nests-down .ensures)
+returns-6 c = let s = c .before .before .before .before .before .before .before .before .before .before .before .before .before .before .before .before in visit-nest _ _ _ _ _ _ _ _ (s .pre) _ (c .before .before .before .before .before .match .keys5) (c .before .before .nest-by .ensures) _ (c .before .nests-down .ensures)
 
 same-length-3 : tie.Need-same-length-3
 same-length-3 c = search needs
@@ -114,13 +168,13 @@ same-length-4 : tie.Need-same-length-4
 same-length-4 c = search needs
 
 returns-7 : tie.Need-returns-7
-returns-7 c = let s = c .before .before .before .before .before .before .before .before .before .before .before .before .before .before .before .before .before .before in visit-wrote _ _ _ _ _ _ _ _ (s .pre) 5 _ _ _ (c .before .before .before .before .before .match .keys6) (c .before .before .lay-hardline .ensures) (λ limit. refl)
+returns-7 c = let s = c .before .before .before .before .before .before .before .before .before .before .before .before .before .before .before .before in visit-wrote _ _ _ _ _ _ _ _ (s .pre) 5 _ _ _ (c .before .before .before .before .before .match .keys6) (c .before .before .lay-hardline .ensures) (λ limit. refl)
 
 same-length-5 : tie.Need-same-length-5
 same-length-5 c = search needs
 
 returns-8 : tie.Need-returns-8
-returns-8 c = let s = c .before .before .before .before .before .before .before .before .before .before .before .before .before .before .before .before .before in visit-wrote _ _ _ _ _ _ _ _ (s .pre) 6 _ _ _ (c .before .before .before .before .match .keys7) (c .before .before .lay-text .ensures) (λ limit. refl)
+returns-8 c = let s = c .before .before .before .before .before .before .before .before .before .before .before .before .before .before .before .before .before in visit-wrote _ _ _ _ _ _ _ _ (s .pre) 6 _ _ _ (c .before .before .before .before .before .before .match .keys7) (c .before .before .lay-text .ensures) (λ limit. refl)
 
 same-length-6 : tie.Need-same-length-6
 same-length-6 c = search needs
@@ -129,22 +183,22 @@ same-length-7 : tie.Need-same-length-7
 same-length-7 c = search needs
 
 returns-9 : tie.Need-returns-9
-returns-9 c = let s = c .before .before .before .before .before .before .before .before .before .before .before .before .before .before .before .before .before .before .before .before in visit-annotated _ _ _ _ _ _ _ _ (s .pre) _ _ _ _ (c .before .before .before .before .before .before .before .match .keys8) (c .before .before .before .before .lay-annotated .ensures) (λ limit. refl)
+returns-9 c = let s = c .before .before .before .before .before .before .before .before .before .before .before .before .before .before .before .before .before .before .before in visit-annotated _ _ _ _ _ _ _ _ (s .pre) _ _ _ _ (c .before .before .before .before .before .before .before .before .match .keys8) (c .before .before .before .before .lay-annotated .ensures) (λ limit. refl)
 
 same-length-8 : tie.Need-same-length-8
 same-length-8 c = search needs
 
 returns-10 : tie.Need-returns-10
-returns-10 c = let s = c .before .before .before .before .before .before .before .before .before .before .before .before .before .before .before .before .before in visit-kept _ _ _ _ _ _ _ _ (s .pre) 8 _ _ _ (c .before .before .before .before .match .keys9) (c .before .before .lay-union .ensures) (λ limit. refl)
+returns-10 c = let s = c .before .before .before .before .before .before .before .before .before .before .before .before .before .before .before .before in visit-kept _ _ _ _ _ _ _ _ (s .pre) 8 _ _ _ (c .before .before .before .before .before .match .keys9) (c .before .before .lay-union .ensures) (λ limit. refl)
 
 returns-11 : tie.Need-returns-11
-returns-11 c = let s = c .before .before .before .before .before .before .before .before .before .before .before .before .before .before .before in visit-align _ _ _ _ _ _ _ _ (s .pre) _ (c .before .before .match .keys10) (c .to-indent .ensures)
+returns-11 c = let s = c .before .before .before .before .before .before .before .before .before .before .before .before .before in visit-align _ _ _ _ _ _ _ _ (s .pre) _ (c .before .before .match .keys10) (c .to-indent .ensures)
 
 same-length-9 : tie.Need-same-length-9
 same-length-9 c = search needs
 
 returns-12 : tie.Need-returns-12
-returns-12 c = let s = c .before .before .before .before .before .before .before .before .before .before .before .before .before .before .before in
+returns-12 c = let s = c .before .before .before .before .before .before .before .before .before .before .before .before .before in
     let h = c .before .before .match .rest in
     visit-fail _ _ _ _ _ _ _ _ (s .pre) _ (node-fail _ _ (h .0 .0 .0 .0 .0 .0 .0 .0 .0 .1) (h .0 .0 .0 .0 .0 .0 .0 .0 .1) (h .0 .0 .0 .0 .0 .0 .0 .1) (h .0 .0 .0 .0 .0 .0 .1) (h .0 .0 .0 .0 .0 .1) (h .0 .0 .0 .0 .1) (h .0 .0 .0 .1) (h .0 .0 .1) (h .0 .1) (h .1)) (c .lay-fail .ensures)
 
@@ -159,21 +213,39 @@ visit-spec =
     add-a
     mul-a
     shared-slice-read-a
-    add-b
-    mul-b
-    shared-slice-read-b
-    add-c
-    mul-c
-    shared-slice-read-c
+    add-lay-append
+    mul-lay-append
+    shared-slice-read-lay-append
     lay-append-requires
     lay-group-requires
     child-of-requires
+    add-child-of
+    mul-child-of
+    shared-slice-read-child-of
     child-of-requires-2
+    add-nest-by
+    mul-nest-by
+    shared-slice-read-nest-by
+    add-nest-by-2
+    mul-nest-by-2
+    shared-slice-read-nest-by-2
     nest-by-requires
     nests-down-requires
     lay-hardline-requires
+    add-lay-text
+    mul-lay-text
+    shared-slice-read-lay-text
+    add-lay-text-2
+    mul-lay-text-2
+    shared-slice-read-lay-text-2
     lay-text-requires
+    add-lay-annotated
+    mul-lay-annotated
+    shared-slice-read-lay-annotated
     lay-annotated-requires
+    add-lay-union
+    mul-lay-union
+    shared-slice-read-lay-union
     lay-union-requires
     to-indent-requires
     lay-fail-requires
