@@ -1,9 +1,14 @@
--- `rows::added` is safe and ends. Assumes nothing.
-use lib.Seq.{length-take-le}
-use Rattle.pallets.proofs.Saying.{body-within}
+-- `rows::added` meets its contract. Assumes nothing.
 use borrow.Author.Needs.{needs}
 use native.Mathlib.Omega.{arith}
-use mathlib.Core.Path.{sym}
+use Prim.Native.Nat.{ℕ}
+use mathlib.Core.Path.{refl, sym, ap}
+use lib.ListN.{take}
+use lib.Seq.{length-take-le}
+use Rattle.pallets.specs.Pallets.{parsed}
+use Rattle.pallets.proofs.Saying.{body-within}
+use Rattle.rows.proofs.Chain.{new, kept, after, refused, gives, appends}
+use Rattle.rows.specs.Documents.{saysDoc, partDoc}
 use Rattle.rows.proofs.added.Statement.{statement}
 use Rattle.rows.proofs.added.Tie as tie
 
@@ -29,7 +34,7 @@ same-length-2 : tie.Need-same-length-2
 same-length-2 c = search needs
 
 returns : tie.Need-returns
-returns c = search needs
+returns c = λ d s i. refused (c .enum-told .given .1)
 
 append-requires : tie.Need-append-requires
 append-requires c κs = search needs
@@ -41,7 +46,8 @@ same-length-4 : tie.Need-same-length-4
 same-length-4 c = search needs
 
 returns-2 : tie.Need-returns-2
-returns-2 c = search needs
+unfolding partDoc
+returns-2 c = λ d s i. after (gives refl (ap (λ (n : ℕ). saysDoc (take n (c .before .before .before .before .before .before .before .before .before .before .before .before .before .before .before .before .before .before .before .before .args .line .now)) (parsed (take n (c .before .before .before .before .before .before .before .before .before .before .before .before .before .before .before .before .before .before .before .before .args .line .now)))) (c .before .before .before .before .before .before .before .before .before .before .before .before .before .before .before .before .body-end .ensures)) (c .before .before .before .before .before .before .before .before .before .before .before .before .part .ensures s)) (c .before .before .before .before .before .before .made .given .1) (λ b. appends (kept b i) (new b) (c .before .before .append .ensures))
 
 pub added-spec : {M : Type 1} → statement M
 added-spec =
