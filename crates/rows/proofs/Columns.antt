@@ -6,9 +6,9 @@
 -- Assumes nothing.
 use Prim.Native.Nat.{ℕ, suc, _+_, _-_, _≤_, _<_}
 use native.Mathlib.Omega.{arith}
-use mathlib.Core.Path.{_≡_, refl, sym, ap, ap₂, _∙_, subst}
+use mathlib.Core.Path.{_≡_, refl, ap, ap₂, _∙_, subst}
 use mathlib.Core.Bool.{Bool, true, false, _&&_}
-use mathlib.Core.List.{List, [], _∷_, _++_, append-assoc}
+use mathlib.Core.List.{List, [], _∷_, _++_}
 use lib.ListN.{length, take, drop, replicate, length-take, length-drop, length-replicate}
 use lib.Dec.{eqb}
 use borrow.Author.Tests.{eq-eqb, ne-eqb}
@@ -17,7 +17,7 @@ use Rattle.table.specs.Document.{Doc, hardline, annotated, union}
 use Rattle.build.specs.Documents.{appendDoc}
 use Rattle.pallets.specs.Lines.{indexOf, characters}
 use Rattle.pallets.specs.declared.Pallet.{Pallet}
-use Rattle.rows.specs.Bytes.{Placed, Written, Adds, field, right, fields}
+use Rattle.rows.specs.Bytes.{Placed, Adds, field, right, fields}
 use Rattle.rows.specs.Words.{skipped, trimmed, remark}
 use Rattle.rows.specs.Documents.{besideDoc, belowDoc, endedDoc, markedDoc}
 use Rattle.rows.proofs.Placing.{blank-written, front-is, place-adds, placed-length, then-adds}

@@ -3,7 +3,7 @@
 --     Adding, none-added, one-added, all-added     before the first, one more, and no more to come
 --     Filling, fill-start, fill-next, fill-end     the same of the words of a text
 -- Assumes nothing.
-use Prim.Native.Nat.{ℕ, suc, _+_, _-_, _≤_, _<_}
+use Prim.Native.Nat.{ℕ, _+_, _-_, _≤_, _<_}
 use native.Mathlib.Omega.{arith}
 use mathlib.Core.Path.{_≡_, refl, sym, ap, _∙_, subst}
 use mathlib.Core.List.{List, [], _∷_, map}

@@ -10,7 +10,7 @@ use native.Mathlib.Nat.{zero-min, min-zero, suc-min-suc}
 use mathlib.Core.Path.{_≡_, refl, sym, ap, ap₂, _∙_, subst}
 use mathlib.Core.List.{List, [], _∷_, _++_, append-assoc}
 use lib.ListN.{length, take, drop, replicate, length-take, length-append, length-replicate, replicate-append-replicate}
-use lib.Seq.{take-at, drop-at, drop-drop, take-append-add, take-append-le, take-all, take-take, length-take-le}
+use lib.Seq.{take-at, drop-at, drop-drop, take-append-add}
 use Rattle.buffer.specs.Run.{put}
 use Rattle.buffer.proofs.Put.{length-put, put-same}
 use Rattle.rows.specs.Bytes.{Placed, Written, Adds}

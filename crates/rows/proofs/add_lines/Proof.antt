@@ -2,7 +2,7 @@
 use borrow.Author.Needs.{needs}
 use native.Mathlib.Omega.{arith}
 use Prim.Native.Nat.{_+_, _-_, _≤_}
-use mathlib.Core.Path.{_≡_, ap}
+use mathlib.Core.Path.{_≡_, ap, _∙_}
 use lib.ListN.{length, drop}
 use Rattle.build.specs.Promise.{Valid}
 use Rattle.pallets.specs.Lines.{lines}
@@ -46,10 +46,10 @@ enum-known-made : tie.Need-enum-known-made Inv-loop μ-loop
 enum-known-made c = search needs
 
 same-length : tie.Need-same-length Inv-loop μ-loop
-same-length c = search needs
+same-length c = c .before .before .before .before .before .before .before .added .kept .1 .0 ∙ c .before .before .before .before .before .before .before .before .before .before .before .before .before .loop .inv .0
 
 same-length-2 : tie.Need-same-length-2 Inv-loop μ-loop
-same-length-2 c = search needs
+same-length-2 c = c .before .before .before .before .before .before .before .added .kept .1 .1 .0 ∙ c .before .before .before .before .before .before .before .before .before .before .before .before .before .loop .inv .1
 
 returns : tie.Need-returns Inv-loop μ-loop
 returns c = λ v s. omega (arith, count-next (c .before .before .before .before .before .before .before .before .before .before .before .before .before .before .before .before .before .before .args .input .now) (c .before .before .before .before .before .before .before .before .before .before .before .before .before .loop .at) (c .before .before .before .before .before .before .before .before .before .before .before .part-end .result) (c .before .before .before .before .before .before .before .before .before .before .before .part-end .ensures) (omega arith), c .before .before .before .before .before .before .before .before .before .before .before .before .before .loop .inv .3)
@@ -64,10 +64,10 @@ loop-again : tie.Need-loop-again Inv-loop μ-loop
 loop-again c = let L = c .before .before .before .before .before .before .before .before .before .before .before .before .before .loop in (search needs, search needs, omega (arith, c .before .before .before .before .before .before .before .before .before .before .before .part-end .ensures, L .inv .2), omega (arith, count-next (c .before .before .before .before .before .before .before .before .before .before .before .before .before .before .before .before .before .before .args .input .now) (L .at) (c .before .before .before .before .before .before .before .before .before .before .before .part-end .result) (c .before .before .before .before .before .before .before .before .before .before .before .part-end .ensures) (omega arith), L .inv .3), λ v s. one-lined (L .inv .4 v s) (c .before .before .before .before .before .before .before .before .before .before .before .part-end .result) (c .before .before .before .before .before .before .before .before .before .before .before .part-end .ensures) (omega arith) (c .before .before .before .before .before .before .before .added .ensures) (c .before .made2 .given .1))
 
 same-length-3 : tie.Need-same-length-3 Inv-loop μ-loop
-same-length-3 c = search needs
+same-length-3 c = c .before .loop .inv .0
 
 same-length-4 : tie.Need-same-length-4 Inv-loop μ-loop
-same-length-4 c = search needs
+same-length-4 c = c .before .loop .inv .1
 
 returns-2 : tie.Need-returns-2 Inv-loop μ-loop
 returns-2 c = let L = c .before .loop in λ v s. all-lined (L .inv .4 v s) (omega arith) (L .line) (omega (arith, ap length (no-lines (c .before .before .before .before .before .before .args .input .now) (L .at) (omega arith)), L .inv .3))

@@ -11,22 +11,22 @@ use Rattle.rows.proofs.part.Statement.{statement}
 use Rattle.rows.proofs.part.Tie as tie
 
 parse-requires : tie.Need-parse-requires
-parse-requires c κs = search needs
+parse-requires c κs = tt
 
 enum-known-says : tie.Need-enum-known-says
 enum-known-says c = search needs
 
 row-requires : tie.Need-row-requires
-row-requires c κs = search needs
+row-requires c κs = tt
 
 enum-told : tie.Need-enum-told
 enum-told c = search needs
 
 behind-requires : tie.Need-behind-requires
-behind-requires c κs = search needs
+behind-requires c κs = tt
 
 heading-requires : tie.Need-heading-requires
-heading-requires c κs = search needs
+heading-requires c κs = tt
 
 enum-told-2 : tie.Need-enum-told-2
 enum-told-2 c = search needs
@@ -35,20 +35,20 @@ enum-told-3 : tie.Need-enum-told-3
 enum-told-3 c = search needs
 
 same-length : tie.Need-same-length
-same-length c = search needs
+same-length c = c .before .before .before .before .row .kept .1 .0
 
 same-length-2 : tie.Need-same-length-2
-same-length-2 c = search needs
+same-length-2 c = c .before .before .before .before .row .kept .1 .1 .0
 
 returns : tie.Need-returns
 unfolding saysDoc
 returns c = λ s. gives refl (ap (saysDoc (c .before .before .before .before .before .before .before .before .before .before .before .before .before .before .before .before .args .line .now)) (sym (c .before .before .before .before .before .before .before .before .says .given .1) ∙ c .before .before .before .before .before .before .before .before .before .before .parse .ensures)) (c .before .before .before .before .row .ensures s)
 
 same-length-3 : tie.Need-same-length-3
-same-length-3 c = search needs
+same-length-3 c = c .before .before .before .before .heading .kept .1 .0
 
 same-length-4 : tie.Need-same-length-4
-same-length-4 c = search needs
+same-length-4 c = c .before .before .before .before .heading .kept .1 .1 .0
 
 returns-2 : tie.Need-returns-2
 unfolding saysDoc

@@ -13,13 +13,13 @@ slice-aggregate-leaf : tie.Need-slice-aggregate-leaf
 slice-aggregate-leaf c = search needs
 
 leaf-requires : tie.Need-leaf-requires
-leaf-requires c κs = search needs
+leaf-requires c κs = tt
 
 same-length : tie.Need-same-length
-same-length c = search needs
+same-length c = c .before .before .before .before .leaf .kept .1 .0
 
 same-length-2 : tie.Need-same-length-2
-same-length-2 c = search needs
+same-length-2 c = c .before .before .before .before .leaf .kept .1 .1 .0
 
 returns : tie.Need-returns
 returns c = gives refl (within-one (c .before .before .before .before .before .before .before .before .before .before .before .args .rows) (c .before .before .before .before .before .before .before .before .if1 .taken)) (c .before .before .before .before .leaf .ensures)
@@ -28,7 +28,7 @@ slice-aggregate-put-digits : tie.Need-slice-aggregate-put-digits
 slice-aggregate-put-digits c = search needs
 
 put-digits-requires : tie.Need-put-digits-requires
-put-digits-requires c κs = search needs
+put-digits-requires c κs = tt
 
 slice-aggregate-put : tie.Need-slice-aggregate-put
 slice-aggregate-put c = search needs
@@ -46,7 +46,7 @@ slice-aggregate-behind : tie.Need-slice-aggregate-behind
 slice-aggregate-behind c = search needs
 
 behind-requires : tie.Need-behind-requires
-behind-requires c κs = search needs
+behind-requires c κs = tt
 
 put-requires-2 : tie.Need-put-requires-2
 put-requires-2 c κs = search needs
@@ -64,16 +64,16 @@ slice-aggregate-front : tie.Need-slice-aggregate-front
 slice-aggregate-front c = search needs
 
 front-requires : tie.Need-front-requires
-front-requires c κs = search needs
+front-requires c κs = tt
 
 leaf-requires-2 : tie.Need-leaf-requires-2
-leaf-requires-2 c κs = search needs
+leaf-requires-2 c κs = tt
 
 same-length-3 : tie.Need-same-length-3
-same-length-3 c = search needs
+same-length-3 c = c .before .before .before .before .leaf2 .kept .1 .0
 
 same-length-4 : tie.Need-same-length-4
-same-length-4 c = search needs
+same-length-4 c = c .before .before .before .before .leaf2 .kept .1 .1 .0
 
 returns-2 : tie.Need-returns-2
 returns-2 c = gives refl (ap leafDoc (c .before .before .before .before .before .front .ensures ∙ said-of-all (c .before .before .before .before .before .before .before .before .before .before .before .before .before .before .before .before .before .before .before .before .before .before .before .before .before .before .before .before .args .rows) allText withinText _ (c .before .before .before .before .before .before .before .before .before .before .before .before .before .before .before .behind .ensures ∙ c .before .before .before .before .before .before .before .before .before .before .before .before .before .before .before .before .before .before .before .before .before .before .before .put-digits .ensures) (c .before .before .before .before .before .before .before .before .before .before .before .before .before .before .before .before .before .before .before .put .ensures) (c .before .before .before .before .before .before .before .before .before .before .before .before .before .before .put2 .ensures) (c .before .before .before .before .before .before .before .before .before .before .put3 .ensures)) ∙ within-all (c .before .before .before .before .before .before .before .before .before .before .before .before .before .before .before .before .before .before .before .before .before .before .before .before .before .before .before .before .args .rows) (c .before .before .before .before .before .before .before .before .before .before .before .before .before .before .before .before .before .before .before .before .before .before .before .before .before .if1 .left)) (c .before .before .before .before .leaf2 .ensures)

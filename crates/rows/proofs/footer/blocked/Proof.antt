@@ -1,13 +1,13 @@
 -- `rows::footer::blocked` meets its contract. Assumes nothing.
 use borrow.Author.Needs.{needs}
-use mathlib.Core.Path.{refl}
-use Rattle.rows.proofs.Chain.{new, kept, shares-kept, after, refused, appends, blocks}
+use mathlib.Core.Path.{refl, _∙_}
+use Rattle.rows.proofs.Chain.{new, kept, after, refused, appends, blocks}
 use Rattle.rows.specs.Documents.{headedDoc}
 use Rattle.rows.proofs.footer.blocked.Statement.{statement}
 use Rattle.rows.proofs.footer.blocked.Tie as tie
 
 append-requires : tie.Need-append-requires
-append-requires c κs = search needs
+append-requires c κs = tt
 
 enum-known-made : tie.Need-enum-known-made
 enum-known-made c = search needs
@@ -16,10 +16,10 @@ enum-told : tie.Need-enum-told
 enum-told c = search needs
 
 same-length : tie.Need-same-length
-same-length c = search needs
+same-length c = c .before .before .before .before .append .kept .1 .0
 
 same-length-2 : tie.Need-same-length-2
-same-length-2 c = search needs
+same-length-2 c = refl
 
 returns : tie.Need-returns
 returns c = λ d s i. refused (c .enum-told .given .1)
@@ -28,7 +28,7 @@ slice-aggregate-leaf : tie.Need-slice-aggregate-leaf
 slice-aggregate-leaf c = search needs
 
 leaf-requires : tie.Need-leaf-requires
-leaf-requires c κs = search needs
+leaf-requires c κs = tt
 
 enum-known-made-2 : tie.Need-enum-known-made-2
 enum-known-made-2 c = search needs
@@ -37,10 +37,10 @@ enum-told-2 : tie.Need-enum-told-2
 enum-told-2 c = search needs
 
 same-length-3 : tie.Need-same-length-3
-same-length-3 c = search needs
+same-length-3 c = c .before .before .before .before .before .before .leaf .kept .1 .0 ∙ c .before .before .before .before .before .before .before .before .before .before .before .before .before .before .before .append .kept .1 .0
 
 same-length-4 : tie.Need-same-length-4
-same-length-4 c = search needs
+same-length-4 c = c .before .before .before .before .before .before .leaf .kept .1 .1 .0
 
 returns-2 : tie.Need-returns-2
 returns-2 c = λ d s i. refused (c .enum-told2 .given .1)
@@ -55,13 +55,13 @@ slice-aggregate-format-3 : tie.Need-slice-aggregate-format-3
 slice-aggregate-format-3 c = search needs
 
 format-requires : tie.Need-format-requires
-format-requires c κs = search needs
+format-requires c κs = tt
 
 same-length-5 : tie.Need-same-length-5
-same-length-5 c = search needs
+same-length-5 c = c .before .before .format .kept .1 .1 .0 ∙ c .before .before .before .before .before .before .before .before .before .before .before .before .before .before .before .leaf .kept .1 .0 ∙ c .before .before .before .before .before .before .before .before .before .before .before .before .before .before .before .before .before .before .before .before .before .before .before .before .append .kept .1 .0
 
 same-length-6 : tie.Need-same-length-6
-same-length-6 c = search needs
+same-length-6 c = c .before .before .before .before .before .before .before .before .before .before .before .before .before .before .before .leaf .kept .1 .1 .0
 
 returns-3 : tie.Need-returns-3
 unfolding headedDoc

@@ -1,8 +1,8 @@
 -- `rows::footer::notes` meets its contract: the notes so far and those to come are all. Assumes nothing.
 use borrow.Author.Needs.{needs}
 use native.Mathlib.Omega.{arith}
-use Prim.Native.Nat.{_+_, _-_}
-use mathlib.Core.Path.{_≡_}
+use Prim.Native.Nat.{_-_}
+use mathlib.Core.Path.{_≡_, _∙_}
 use mathlib.Core.List.{map}
 use lib.ListN.{length, drop}
 use Rattle.table.specs.Document.{nil}
@@ -38,10 +38,10 @@ enum-told : tie.Need-enum-told Inv-loop μ-loop
 enum-told c = search needs
 
 same-length : tie.Need-same-length Inv-loop μ-loop
-same-length c = search needs
+same-length c = c .before .before .before .before .loop .inv .0
 
 same-length-2 : tie.Need-same-length-2 Inv-loop μ-loop
-same-length-2 c = search needs
+same-length-2 c = c .before .before .before .before .loop .inv .1
 
 returns : tie.Need-returns Inv-loop μ-loop
 returns c = λ i j. all-added (c .before .before .before .before .loop .inv .2 i j) (no-more (c .before .before .before .before .before .before .before .before .args .input .now) (c .before .before .before .before .loop .at) (c .enum-told .given .1) (c .before .before .next-out .ensures .1))
@@ -65,10 +65,10 @@ enum-told-2 : tie.Need-enum-told-2 Inv-loop μ-loop
 enum-told-2 c = search needs
 
 same-length-3 : tie.Need-same-length-3 Inv-loop μ-loop
-same-length-3 c = search needs
+same-length-3 c = c .before .before .before .before .before .before .add-word .kept .1 .0 ∙ c .before .before .before .before .before .before .before .before .before .before .before .before .before .before .before .loop .inv .0
 
 same-length-4 : tie.Need-same-length-4 Inv-loop μ-loop
-same-length-4 c = search needs
+same-length-4 c = c .before .before .before .before .before .before .add-word .kept .1 .1 .0 ∙ c .before .before .before .before .before .before .before .before .before .before .before .before .before .before .before .loop .inv .1
 
 returns-2 : tie.Need-returns-2 Inv-loop μ-loop
 returns-2 c = λ i j. refused (c .enum-told2 .given .1)
@@ -83,10 +83,10 @@ loop-again : tie.Need-loop-again Inv-loop μ-loop
 loop-again c = let f = first-of (c .before .before .before .before .before .before .before .before .before .before .before .before .before .before .before .before .before .before .before .before .args .input .now) (c .before .before .before .before .before .before .before .before .before .before .before .before .before .before .before .before .loop .at) (c .before .before .before .before .before .before .before .before .before .before .before .before .next .given .1) (c .before .before .before .before .before .before .before .before .before .before .before .before .before .before .next-out .ensures .1) in (search needs, search needs, λ i j. one-added (c .before .before .before .before .before .before .before .before .before .before .before .before .before .before .before .before .loop .inv .2 i j) _ _ (f .names) (c .before .before .before .before .before .before .before .add-word .ensures) (c .before .made .given .1) j)
 
 same-length-5 : tie.Need-same-length-5 Inv-loop μ-loop
-same-length-5 c = search needs
+same-length-5 c = c .before .loop .inv .0
 
 same-length-6 : tie.Need-same-length-6 Inv-loop μ-loop
-same-length-6 c = search needs
+same-length-6 c = c .before .loop .inv .1
 
 returns-3 : tie.Need-returns-3 Inv-loop μ-loop
 returns-3 c = λ i j. all-added (c .before .loop .inv .2 i j) (no-notes (c .before .before .before .before .before .args .input .now) (c .before .loop .at) (omega arith))

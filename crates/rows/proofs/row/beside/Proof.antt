@@ -19,10 +19,10 @@ slice-aggregate-front : tie.Need-slice-aggregate-front
 slice-aggregate-front c = search needs
 
 front-requires : tie.Need-front-requires
-front-requires c κs = search needs
+front-requires c κs = tt
 
 leaf-requires : tie.Need-leaf-requires
-leaf-requires c κs = search needs
+leaf-requires c κs = tt
 
 enum-known-made : tie.Need-enum-known-made
 enum-known-made c = search needs
@@ -31,10 +31,10 @@ enum-told : tie.Need-enum-told
 enum-told c = search needs
 
 same-length : tie.Need-same-length
-same-length c = search needs
+same-length c = c .before .before .before .before .before .before .leaf .kept .1 .0
 
 same-length-2 : tie.Need-same-length-2
-same-length-2 c = search needs
+same-length-2 c = c .before .before .before .before .before .before .leaf .kept .1 .1 .0
 
 returns : tie.Need-returns
 returns c = λ d s i. refused (c .enum-told .given .1)
@@ -43,13 +43,13 @@ slice-aggregate-concat : tie.Need-slice-aggregate-concat
 slice-aggregate-concat c = search needs
 
 concat-requires : tie.Need-concat-requires
-concat-requires c κs = search needs
+concat-requires c κs = tt
 
 same-length-3 : tie.Need-same-length-3
-same-length-3 c = search needs
+same-length-3 c = c .before .before .concat .kept .1 .0 ∙ c .before .before .before .before .before .before .before .before .before .before .before .before .before .leaf .kept .1 .0
 
 same-length-4 : tie.Need-same-length-4
-same-length-4 c = search needs
+same-length-4 c = c .before .before .before .before .before .before .before .before .before .before .before .before .before .leaf .kept .1 .1 .0
 
 returns-2 : tie.Need-returns-2
 unfolding besideDoc

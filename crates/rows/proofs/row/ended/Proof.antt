@@ -8,19 +8,19 @@ use Rattle.rows.proofs.row.ended.Statement.{statement}
 use Rattle.rows.proofs.row.ended.Tie as tie
 
 trimmed-requires : tie.Need-trimmed-requires
-trimmed-requires c κs = search needs
+trimmed-requires c κs = tt
 
 skip-requires : tie.Need-skip-requires
-skip-requires c κs = search needs
+skip-requires c κs = tt
 
 append-requires : tie.Need-append-requires
-append-requires c κs = search needs
+append-requires c κs = tt
 
 same-length : tie.Need-same-length
-same-length c = search needs
+same-length c = c .before .before .append .kept .1 .0
 
 same-length-2 : tie.Need-same-length-2
-same-length-2 c = search needs
+same-length-2 c = refl
 
 returns : tie.Need-returns
 returns c = λ d s i. gives refl (ended-none d (c .before .before .before .before .before .before .before .before .before .before .before .before .args .line .now) (c .before .before .before .before .before .before .before .before .before .before .before .before .args .from) (c .before .before .before .before .before .before .before .trimmed .result) (c .before .before .before .before .before .before .skip .result) (c .before .before .before .before .before .before .before .trimmed .ensures) (c .before .before .before .before .before .before .skip .ensures) (omega arith)) (appends i (s .hardline) (c .before .before .append .ensures))
@@ -35,13 +35,13 @@ part-remarked-end : tie.Need-part-remarked-end
 part-remarked-end c = omega (arith, trim-within (c .before .before .before .before .before .before .before .before .before .args .line .now), c .before .before .before .before .trimmed .ensures)
 
 remarked-requires : tie.Need-remarked-requires
-remarked-requires c κs = search needs
+remarked-requires c κs = tt
 
 same-length-3 : tie.Need-same-length-3
-same-length-3 c = search needs
+same-length-3 c = c .before .before .before .before .remarked .kept .1 .0
 
 same-length-4 : tie.Need-same-length-4
-same-length-4 c = search needs
+same-length-4 c = c .before .before .before .before .remarked .kept .1 .1 .0
 
 returns-2 : tie.Need-returns-2
 returns-2 c = λ d s i. gives refl (ended-some d (c .before .before .before .before .before .before .before .before .before .before .before .before .before .before .before .args .line .now) (c .before .before .before .before .before .before .before .before .before .before .before .before .before .before .before .args .from) (c .before .before .before .before .before .before .before .before .before .before .trimmed .result) (c .before .before .before .before .before .before .before .before .before .skip .result) (c .before .before .before .before .before .before .before .before .before .before .trimmed .ensures) (c .before .before .before .before .before .before .before .before .before .skip .ensures) (omega arith)) (c .before .before .before .before .remarked .ensures d s i)

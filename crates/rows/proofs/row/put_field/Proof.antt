@@ -6,16 +6,16 @@ use Rattle.rows.proofs.row.put_field.Statement.{statement}
 use Rattle.rows.proofs.row.put_field.Tie as tie
 
 part-end-requires : tie.Need-part-end-requires
-part-end-requires c κs = search needs
+part-end-requires c κs = tt
 
 missing-requires : tie.Need-missing-requires
-missing-requires c κs = search needs
+missing-requires c κs = tt
 
 further-requires : tie.Need-further-requires
 further-requires c κs = search needs
 
 front-requires : tie.Need-front-requires
-front-requires c κs = search needs
+front-requires c κs = tt
 
 put-requires : tie.Need-put-requires
 put-requires c κs = search needs

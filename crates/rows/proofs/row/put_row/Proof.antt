@@ -9,16 +9,16 @@ use Rattle.rows.proofs.row.put_row.Statement.{statement}
 use Rattle.rows.proofs.row.put_row.Tie as tie
 
 part-end-requires : tie.Need-part-end-requires
-part-end-requires c κs = search needs
+part-end-requires c κs = tt
 
 front-requires : tie.Need-front-requires
-front-requires c κs = search needs
+front-requires c κs = tt
 
 columns-requires : tie.Need-columns-requires
-columns-requires c κs = search needs
+columns-requires c κs = tt
 
 missing-requires : tie.Need-missing-requires
-missing-requires c κs = search needs
+missing-requires c κs = tt
 
 put-requires : tie.Need-put-requires
 put-requires c κs = search needs
@@ -27,7 +27,7 @@ further-requires : tie.Need-further-requires
 further-requires c κs = placed-length (c .before .before .before .put .ensures) (omega arith) .1
 
 behind-requires : tie.Need-behind-requires
-behind-requires c κs = search needs
+behind-requires c κs = tt
 
 slice-aggregate-put-field : tie.Need-slice-aggregate-put-field
 slice-aggregate-put-field c = search needs
@@ -36,7 +36,7 @@ put-field-requires : tie.Need-put-field-requires
 put-field-requires c κs = search needs
 
 behind-requires-2 : tie.Need-behind-requires-2
-behind-requires-2 c κs = search needs
+behind-requires-2 c κs = tt
 
 slice-aggregate-put-field-2 : tie.Need-slice-aggregate-put-field-2
 slice-aggregate-put-field-2 c = search needs

@@ -3,10 +3,9 @@ use borrow.Author.Needs.{needs}
 use native.Mathlib.Omega.{arith}
 use mathlib.Core.Path.{refl, ap, _∙_}
 use Rattle.rows.proofs.Chain.{new, shares-kept, after, refused, gives, annotates}
-use Rattle.rows.specs.Documents.{leafDoc, endedDoc, rowDoc}
+use Rattle.rows.specs.Documents.{leafDoc, rowDoc}
 use Rattle.rows.proofs.Columns.{written-at, marked-none, marked-some}
 use Rattle.rows.specs.Bytes.{fields}
-use Rattle.rows.specs.Words.{remark}
 use Rattle.rows.proofs.row.row.Statement.{statement}
 use Rattle.rows.proofs.row.row.Tie as tie
 
@@ -20,10 +19,10 @@ slice-aggregate-front : tie.Need-slice-aggregate-front
 slice-aggregate-front c = search needs
 
 front-requires : tie.Need-front-requires
-front-requires c κs = search needs
+front-requires c κs = tt
 
 leaf-requires : tie.Need-leaf-requires
-leaf-requires c κs = search needs
+leaf-requires c κs = tt
 
 enum-known-made : tie.Need-enum-known-made
 enum-known-made c = search needs
@@ -32,25 +31,25 @@ enum-told : tie.Need-enum-told
 enum-told c = search needs
 
 same-length : tie.Need-same-length
-same-length c = search needs
+same-length c = c .before .before .before .before .before .before .leaf .kept .1 .0
 
 same-length-2 : tie.Need-same-length-2
-same-length-2 c = search needs
+same-length-2 c = c .before .before .before .before .before .before .leaf .kept .1 .1 .0
 
 returns : tie.Need-returns
 returns c = λ s. refused (c .enum-told .given .1)
 
 ended-requires : tie.Need-ended-requires
-ended-requires c κs = search needs
+ended-requires c κs = tt
 
 label-requires : tie.Need-label-requires
-label-requires c κs = search needs
+label-requires c κs = tt
 
 same-length-3 : tie.Need-same-length-3
-same-length-3 c = search needs
+same-length-3 c = c .before .before .before .before .before .before .ended .kept .1 .0 ∙ c .before .before .before .before .before .before .before .before .before .before .before .before .before .before .before .before .leaf .kept .1 .0
 
 same-length-4 : tie.Need-same-length-4
-same-length-4 c = search needs
+same-length-4 c = c .before .before .before .before .before .before .ended .kept .1 .1 .0 ∙ c .before .before .before .before .before .before .before .before .before .before .before .before .before .before .before .before .leaf .kept .1 .1 .0
 
 returns-2 : tie.Need-returns-2
 unfolding rowDoc
@@ -63,22 +62,22 @@ enum-told-2 : tie.Need-enum-told-2
 enum-told-2 c = search needs
 
 same-length-5 : tie.Need-same-length-5
-same-length-5 c = search needs
+same-length-5 c = c .before .before .before .before .before .before .before .before .ended .kept .1 .0 ∙ c .before .before .before .before .before .before .before .before .before .before .before .before .before .before .before .before .before .before .leaf .kept .1 .0
 
 same-length-6 : tie.Need-same-length-6
-same-length-6 c = search needs
+same-length-6 c = c .before .before .before .before .before .before .before .before .ended .kept .1 .1 .0 ∙ c .before .before .before .before .before .before .before .before .before .before .before .before .before .before .before .before .before .before .leaf .kept .1 .1 .0
 
 returns-3 : tie.Need-returns-3
 returns-3 c = λ s. refused (c .enum-told2 .given .1)
 
 annotate-requires : tie.Need-annotate-requires
-annotate-requires c κs = search needs
+annotate-requires c κs = tt
 
 same-length-7 : tie.Need-same-length-7
-same-length-7 c = search needs
+same-length-7 c = c .before .before .annotate .kept .1 .0 ∙ c .before .before .before .before .before .before .before .before .before .before .before .before .before .before .ended .kept .1 .0 ∙ c .before .before .before .before .before .before .before .before .before .before .before .before .before .before .before .before .before .before .before .before .before .before .before .before .leaf .kept .1 .0
 
 same-length-8 : tie.Need-same-length-8
-same-length-8 c = search needs
+same-length-8 c = c .before .before .before .before .before .before .before .before .before .before .before .before .before .before .ended .kept .1 .1 .0 ∙ c .before .before .before .before .before .before .before .before .before .before .before .before .before .before .before .before .before .before .before .before .before .before .before .before .leaf .kept .1 .1 .0
 
 returns-4 : tie.Need-returns-4
 unfolding rowDoc

@@ -6,7 +6,7 @@ use Rattle.rows.proofs.texts.leaf.Statement.{statement}
 use Rattle.rows.proofs.texts.leaf.Tie as tie
 
 columns-requires : tie.Need-columns-requires
-columns-requires c κs = search needs
+columns-requires c κs = tt
 
 returns : tie.Need-returns
 returns c = refused refl
@@ -15,13 +15,13 @@ cast-t12 : tie.Need-cast-t12
 cast-t12 c = search needs
 
 text-requires : tie.Need-text-requires
-text-requires c κs = search needs
+text-requires c κs = tt
 
 same-length : tie.Need-same-length
-same-length c = search needs
+same-length c = c .before .before .before .before .text .kept .1 .0
 
 same-length-2 : tie.Need-same-length-2
-same-length-2 c = search needs
+same-length-2 c = c .before .before .before .before .text .kept .1 .1 .0
 
 returns-2 : tie.Need-returns-2
 returns-2 c = writes (c .before .before .before .before .before .before .before .before .before .before .before .before .args .bytes .now) (c .before .before .before .before .before .before .before .before .columns .result) (c .before .before .before .before .before .before .before .before .columns .ensures) (c .before .before .before .before .text .ensures)
