@@ -4,5 +4,6 @@ mod Placing
 mod Cutting
 mod Filling
 mod Columns
+mod Uncut
 mod Footing
 mod Sheets

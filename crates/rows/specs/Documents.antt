@@ -32,7 +32,7 @@ filledDoc most s = intersperseDoc (map leafDoc (wordsOn most (length s) (drop (b
 
 -- the remark beside the row, behind two blanks
 unfoldable pub besideDoc : Doc → List ℕ → Doc
-besideDoc row says = concatDoc (row ∷ leafDoc (take 256 (32 ∷ 32 ∷ says)) ∷ hardline ∷ [])
+besideDoc row says = concatDoc (row ∷ leafDoc (32 ∷ 32 ∷ says) ∷ hardline ∷ [])
 
 -- the remark filled on lines of its own, four columns in
 unfoldable pub lowerDoc : List ℕ → Doc
@@ -52,7 +52,7 @@ markedDoc label d = pick (eqb label 0) d (annotated d label)
 
 -- note, force and pluck point in columns, the remark, and the mark
 unfoldable pub rowDoc : List ℕ → Pallet → Doc
-rowDoc line p = markedDoc (labelOf (p .grams) (p .tenths)) (endedDoc (leafDoc (take 64 (fields line p))) (remark line (p .remark)))
+rowDoc line p = markedDoc (labelOf (p .grams) (p .tenths)) (endedDoc (leafDoc (fields line p)) (remark line (p .remark)))
 
 -- ---- a line
 
@@ -87,7 +87,7 @@ outText = 79 ∷ 117 ∷ 116 ∷ 32 ∷ 111 ∷ 102 ∷ 32 ∷ 116 ∷ 111 ∷ 1
 
 -- that all of so many rows are within tolerance
 unfoldable pub withinDoc : ℕ → Doc
-withinDoc rows = pick (eqb rows 1) (leafDoc oneText) (leafDoc (take 64 (allText ++ digits rows ++ withinText)))
+withinDoc rows = pick (eqb rows 1) (leafDoc oneText) (leafDoc (allText ++ digits rows ++ withinText))
 
 -- a comma and a place to break
 abbrev pub commaDoc : Doc

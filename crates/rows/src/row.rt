@@ -2,9 +2,12 @@
 //
 // A row with a remark is a Union. Its first arm has the remark beside the row, its second has the remark's words filled below, and both end in
 // a Hardline. A row out of tolerance is Annotated with the label of what is out.
+ghost use mathlib.Core.Path.{_≡_};
 ghost use Prim.Native.Nat.{_≤_};
 ghost use lib.ListN.{length};
 ghost use Rattle.table.specs.Document.{Doc, union};
+ghost use Rattle.pallets.specs.Pallets.{parsed};
+ghost use Rattle.pallets.specs.declared.Line.the-variants.{Row};
 ghost use Rattle.rows.specs.Bytes.{Adds, right, fields};
 ghost use Rattle.rows.specs.Words.{remark};
 ghost use Rattle.rows.specs.Documents.{besideDoc, lowerDoc, belowDoc, endedDoc, rowDoc};
@@ -70,6 +73,7 @@ fn beside(
     fixed: NodeNo,
     says: &[u8],
 ) -> Made
+    requires { ⌜ length (now says) ≤ 200 ⌝ }
     ensures { λ r. ⌜ ((d : Doc) → Shares c (now (table .entry)) (now (text .entry)) shared → Is c (now (table .entry)) (now (text .entry)) fixed d → Gives c (now (table .entry)) (now (text .entry)) r (now (table .exit)) (now (text .exit)) (besideDoc d (now (says .entry)))) ⌝ }
 {
     let mut space = [32u8; 256];
@@ -126,6 +130,7 @@ fn remarked(
     fixed: NodeNo,
     says: &[u8],
 ) -> Made
+    requires { ⌜ length (now says) ≤ 200 ⌝ }
     ensures { λ r. ⌜ ((d : Doc) → Shares c (now (table .entry)) (now (text .entry)) shared → Is c (now (table .entry)) (now (text .entry)) fixed d → Gives c (now (table .entry)) (now (text .entry)) r (now (table .exit)) (now (text .exit)) (union (besideDoc d (now (says .entry))) (belowDoc d (now (says .entry))))) ⌝ }
 {
     let made = beside(c, table, text, shared, fixed, says);
@@ -149,6 +154,7 @@ fn ended(
     line: &[u8],
     from: usize,
 ) -> Made
+    requires { ⌜ length (now line) ≤ 200 ⌝ }
     ensures { λ r. ⌜ ((d : Doc) → Shares c (now (table .entry)) (now (text .entry)) shared → Is c (now (table .entry)) (now (text .entry)) fixed d → Gives c (now (table .entry)) (now (text .entry)) r (now (table .exit)) (now (text .exit)) (endedDoc d (remark (now (line .entry)) from))) ⌝ }
 {
     let hardline = shared.hardline;
@@ -169,6 +175,7 @@ pub fn row(
     line: &[u8],
     p: Pallet,
 ) -> Made
+    requires { ⌜ parsed (now line) ≡ Row p ⌝ }
     ensures { λ r. ⌜ (Shares c (now (table .entry)) (now (text .entry)) shared → Gives c (now (table .entry)) (now (text .entry)) r (now (table .exit)) (now (text .exit)) (rowDoc (now (line .entry)) p)) ⌝ }
 {
     let mut space = [32u8; 64];

@@ -17,7 +17,7 @@ enum-known-says : tie.Need-enum-known-says
 enum-known-says c = search needs
 
 row-requires : tie.Need-row-requires
-row-requires c κs = tt
+row-requires c κs = sym (c .before .before .before .before .before .parse .ensures) ∙ c .before .before .before .says .given .1
 
 enum-told : tie.Need-enum-told
 enum-told c = search needs

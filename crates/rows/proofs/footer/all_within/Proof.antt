@@ -76,7 +76,7 @@ same-length-4 : tie.Need-same-length-4
 same-length-4 c = c .before .before .before .before .leaf2 .kept .1 .1 .0
 
 returns-2 : tie.Need-returns-2
-returns-2 c = gives refl (ap leafDoc (c .before .before .before .before .before .front .ensures ∙ said-of-all (c .before .before .before .before .before .before .before .before .before .before .before .before .before .before .before .before .before .before .before .before .before .before .before .before .before .before .before .before .args .rows) allText withinText _ (c .before .before .before .before .before .before .before .before .before .before .before .before .before .before .before .behind .ensures ∙ c .before .before .before .before .before .before .before .before .before .before .before .before .before .before .before .before .before .before .before .before .before .before .before .put-digits .ensures) (c .before .before .before .before .before .before .before .before .before .before .before .before .before .before .before .before .before .before .before .put .ensures) (c .before .before .before .before .before .before .before .before .before .before .before .before .before .before .put2 .ensures) (c .before .before .before .before .before .before .before .before .before .before .put3 .ensures)) ∙ within-all (c .before .before .before .before .before .before .before .before .before .before .before .before .before .before .before .before .before .before .before .before .before .before .before .before .before .before .before .before .args .rows) (c .before .before .before .before .before .before .before .before .before .before .before .before .before .before .before .before .before .before .before .before .before .before .before .before .before .if1 .left)) (c .before .before .before .before .leaf2 .ensures)
+returns-2 c = gives refl (ap leafDoc (c .before .before .before .before .before .front .ensures ∙ said-of-all (c .before .before .before .before .before .before .before .before .before .before .before .before .before .before .before .before .before .before .before .before .before .before .before .before .before .before .before .before .args .rows) allText withinText _ (c .before .before .before .before .before .before .before .before .before .before .before .before .before .before .before .behind .ensures ∙ c .before .before .before .before .before .before .before .before .before .before .before .before .before .before .before .before .before .before .before .before .before .before .before .put-digits .ensures) (c .before .before .before .before .before .before .before .before .before .before .before .before .before .before .before .before .before .before .before .put .ensures) (c .before .before .before .before .before .before .before .before .before .before .before .before .before .before .put2 .ensures) (c .before .before .before .before .before .before .before .before .before .before .put3 .ensures) (omega arith)) ∙ within-all (c .before .before .before .before .before .before .before .before .before .before .before .before .before .before .before .before .before .before .before .before .before .before .before .before .before .before .before .before .args .rows) (c .before .before .before .before .before .before .before .before .before .before .before .before .before .before .before .before .before .before .before .before .before .before .before .before .before .if1 .left)) (c .before .before .before .before .leaf2 .ensures)
 
 pub all-within-spec : {M : Type 1} → statement M
 all-within-spec =

@@ -6,6 +6,7 @@ use Rattle.rows.proofs.Chain.{new, kept, after, refused, gives, joins}
 use Rattle.rows.specs.Documents.{leafDoc, besideDoc}
 use Rattle.rows.proofs.Placing.{place-adds}
 use Rattle.rows.proofs.Columns.{written-at}
+use Rattle.rows.proofs.Uncut.{remark-fits}
 use Rattle.rows.proofs.row.beside.Statement.{statement}
 use Rattle.rows.proofs.row.beside.Tie as tie
 
@@ -53,7 +54,7 @@ same-length-4 c = c .before .before .before .before .before .before .before .bef
 
 returns-2 : tie.Need-returns-2
 unfolding besideDoc
-returns-2 c = λ d s i. let says = c .before .before .before .before .before .before .before .before .before .before .before .before .before .before .before .before .before .before .before .before .before .before .before .before .args .says .now in let is = c .before .before .before .before .before .before .before .before .before .before .before .before .before .before .front .ensures ∙ written-at 256 2 says _ (c .before .before .before .before .before .before .before .before .before .before .before .before .before .before .before .before .before .before .before .put .result) (omega arith) (place-adds (c .before .before .before .before .before .before .before .before .before .before .before .before .before .before .before .before .before .before .before .put .ensures)) in after (gives refl (ap leafDoc is) (c .before .before .before .before .before .before .before .before .before .before .before .before .before .leaf .ensures)) (c .before .before .before .before .before .before .before .made .given .1) (λ b. joins (kept b i) (new b) (kept b (s .hardline)) (c .before .before .concat .ensures))
+returns-2 c = λ d s i. let says = c .before .before .before .before .before .before .before .before .before .before .before .before .before .before .before .before .before .before .before .before .before .before .before .before .args .says .now in let is = c .before .before .before .before .before .before .before .before .before .before .before .before .before .before .front .ensures ∙ written-at 256 2 says _ (c .before .before .before .before .before .before .before .before .before .before .before .before .before .before .before .before .before .before .before .put .result) (omega arith) (place-adds (c .before .before .before .before .before .before .before .before .before .before .before .before .before .before .before .before .before .before .before .put .ensures)) ∙ remark-fits says (c .before .before .before .before .before .before .before .before .before .before .before .before .before .before .before .before .before .before .before .before .before .before .before .before .pre) in after (gives refl (ap leafDoc is) (c .before .before .before .before .before .before .before .before .before .before .before .before .before .leaf .ensures)) (c .before .before .before .before .before .before .before .made .given .1) (λ b. joins (kept b i) (new b) (kept b (s .hardline)) (c .before .before .concat .ensures))
 
 pub beside-spec : {M : Type 1} → statement M
 beside-spec =

@@ -1,6 +1,7 @@
 -- `rows::row::ended` meets its contract. Assumes nothing.
 use borrow.Author.Needs.{needs}
 use native.Mathlib.Omega.{arith}
+use lib.ListN.{length-take, length-drop}
 use mathlib.Core.Path.{refl}
 use Rattle.rows.proofs.Chain.{gives, appends}
 use Rattle.rows.proofs.Columns.{trim-within, ended-none, ended-some}
@@ -35,7 +36,7 @@ part-remarked-end : tie.Need-part-remarked-end
 part-remarked-end c = omega (arith, trim-within (c .before .before .before .before .before .before .before .before .before .args .line .now), c .before .before .before .before .trimmed .ensures)
 
 remarked-requires : tie.Need-remarked-requires
-remarked-requires c κs = tt
+remarked-requires c κs = simp (length-take, length-drop) (omega (arith, c .before .before .before .before .before .before .before .before .before .before .pre))
 
 same-length-3 : tie.Need-same-length-3
 same-length-3 c = c .before .before .before .before .remarked .kept .1 .0

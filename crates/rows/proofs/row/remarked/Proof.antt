@@ -6,7 +6,7 @@ use Rattle.rows.proofs.row.remarked.Statement.{statement}
 use Rattle.rows.proofs.row.remarked.Tie as tie
 
 beside-requires : tie.Need-beside-requires
-beside-requires c κs = tt
+beside-requires c κs = c .before .before .before .before .before .pre
 
 enum-known-made : tie.Need-enum-known-made
 enum-known-made c = search needs

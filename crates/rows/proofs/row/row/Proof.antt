@@ -6,6 +6,7 @@ use Rattle.rows.proofs.Chain.{new, shares-kept, after, refused, gives, 
 use Rattle.rows.specs.Documents.{leafDoc, rowDoc}
 use Rattle.rows.proofs.Columns.{written-at, marked-none, marked-some}
 use Rattle.rows.specs.Bytes.{fields}
+use Rattle.rows.proofs.Uncut.{row-sound, fields-fit}
 use Rattle.rows.proofs.row.row.Statement.{statement}
 use Rattle.rows.proofs.row.row.Tie as tie
 
@@ -40,7 +41,7 @@ returns : tie.Need-returns
 returns c = λ s. refused (c .enum-told .given .1)
 
 ended-requires : tie.Need-ended-requires
-ended-requires c κs = tt
+ended-requires c κs = let a = c .before .before .before .before .before .before .before .before .before .before .before .before .before .before .before .before .before .before .before .before .args in row-sound (a .line .now) (a .p) (c .before .before .before .before .before .before .before .before .before .before .before .before .before .before .before .before .before .before .before .before .pre) .short
 
 label-requires : tie.Need-label-requires
 label-requires c κs = tt
@@ -53,7 +54,7 @@ same-length-4 c = c .before .before .before .before .before .before .ended .kept
 
 returns-2 : tie.Need-returns-2
 unfolding rowDoc
-returns-2 c = λ s. let a = c .before .before .before .before .before .before .before .before .before .before .before .before .before .before .before .before .before .before .before .before .before .before .before .before .before .before .before .args in let is = c .before .before .before .before .before .before .before .before .before .before .before .before .before .before .before .before .before .front .ensures ∙ written-at 64 0 (fields (a .line .now) (a .p)) _ (c .before .before .before .before .before .before .before .before .before .before .before .before .before .before .before .before .before .before .before .before .before .before .put-row .result) (omega arith) (c .before .before .before .before .before .before .before .before .before .before .before .before .before .before .before .before .before .before .before .before .before .before .put-row .ensures) in gives refl (marked-none (c .before .label .result) _ (c .before .label .ensures) _ (c .if1 .taken)) (after (gives refl (ap leafDoc is) (c .before .before .before .before .before .before .before .before .before .before .before .before .before .before .before .before .leaf .ensures)) (c .before .before .before .before .before .before .before .before .before .before .made .given .1) (λ b. c .before .before .before .before .before .before .ended .ensures _ (shares-kept b s) (new b)))
+returns-2 c = λ s. let a = c .before .before .before .before .before .before .before .before .before .before .before .before .before .before .before .before .before .before .before .before .before .before .before .before .before .before .before .args in let is = c .before .before .before .before .before .before .before .before .before .before .before .before .before .before .before .before .before .front .ensures ∙ written-at 64 0 (fields (a .line .now) (a .p)) _ (c .before .before .before .before .before .before .before .before .before .before .before .before .before .before .before .before .before .before .before .before .before .before .put-row .result) (omega arith) (c .before .before .before .before .before .before .before .before .before .before .before .before .before .before .before .before .before .before .before .before .before .before .put-row .ensures) ∙ fields-fit (row-sound (a .line .now) (a .p) (c .before .before .before .before .before .before .before .before .before .before .before .before .before .before .before .before .before .before .before .before .before .before .before .before .before .before .before .pre)) in gives refl (marked-none (c .before .label .result) _ (c .before .label .ensures) _ (c .if1 .taken)) (after (gives refl (ap leafDoc is) (c .before .before .before .before .before .before .before .before .before .before .before .before .before .before .before .before .leaf .ensures)) (c .before .before .before .before .before .before .before .before .before .before .made .given .1) (λ b. c .before .before .before .before .before .before .ended .ensures _ (shares-kept b s) (new b)))
 
 enum-known-made-2 : tie.Need-enum-known-made-2
 enum-known-made-2 c = search needs
@@ -81,7 +82,7 @@ same-length-8 c = c .before .before .before .before .before .before .before .bef
 
 returns-4 : tie.Need-returns-4
 unfolding rowDoc
-returns-4 c = λ s. let a = c .before .before .before .before .before .before .before .before .before .before .before .before .before .before .before .before .before .before .before .before .before .before .before .before .before .before .before .before .before .before .before .before .before .before .before .args in let is = c .before .before .before .before .before .before .before .before .before .before .before .before .before .before .before .before .before .before .before .before .before .before .before .before .before .front .ensures ∙ written-at 64 0 (fields (a .line .now) (a .p)) _ (c .before .before .before .before .before .before .before .before .before .before .before .before .before .before .before .before .before .before .before .before .before .before .before .before .before .before .before .before .before .before .put-row .result) (omega arith) (c .before .before .before .before .before .before .before .before .before .before .before .before .before .before .before .before .before .before .before .before .before .before .before .before .before .before .before .before .before .before .put-row .ensures) in gives refl (marked-some (c .before .before .before .before .before .before .before .before .before .label .result) _ (c .before .before .before .before .before .before .before .before .before .label .ensures) _ (c .before .before .before .before .before .before .before .before .if1 .left)) (after (gives refl (ap leafDoc is) (c .before .before .before .before .before .before .before .before .before .before .before .before .before .before .before .before .before .before .before .before .before .before .before .before .leaf .ensures)) (c .before .before .before .before .before .before .before .before .before .before .before .before .before .before .before .before .before .before .made .given .1) (λ b. after (c .before .before .before .before .before .before .before .before .before .before .before .before .before .before .ended .ensures _ (shares-kept b s) (new b)) (c .before .before .before .before .before .before .made2 .given .1) (λ q. annotates (new q) (c .before .before .before .before .before .before .before .before .before .label .result) (c .before .before .annotate .ensures))))
+returns-4 c = λ s. let a = c .before .before .before .before .before .before .before .before .before .before .before .before .before .before .before .before .before .before .before .before .before .before .before .before .before .before .before .before .before .before .before .before .before .before .before .args in let is = c .before .before .before .before .before .before .before .before .before .before .before .before .before .before .before .before .before .before .before .before .before .before .before .before .before .front .ensures ∙ written-at 64 0 (fields (a .line .now) (a .p)) _ (c .before .before .before .before .before .before .before .before .before .before .before .before .before .before .before .before .before .before .before .before .before .before .before .before .before .before .before .before .before .before .put-row .result) (omega arith) (c .before .before .before .before .before .before .before .before .before .before .before .before .before .before .before .before .before .before .before .before .before .before .before .before .before .before .before .before .before .before .put-row .ensures) ∙ fields-fit (row-sound (a .line .now) (a .p) (c .before .before .before .before .before .before .before .before .before .before .before .before .before .before .before .before .before .before .before .before .before .before .before .before .before .before .before .before .before .before .before .before .before .before .before .pre)) in gives refl (marked-some (c .before .before .before .before .before .before .before .before .before .label .result) _ (c .before .before .before .before .before .before .before .before .before .label .ensures) _ (c .before .before .before .before .before .before .before .before .if1 .left)) (after (gives refl (ap leafDoc is) (c .before .before .before .before .before .before .before .before .before .before .before .before .before .before .before .before .before .before .before .before .before .before .before .before .leaf .ensures)) (c .before .before .before .before .before .before .before .before .before .before .before .before .before .before .before .before .before .before .made .given .1) (λ b. after (c .before .before .before .before .before .before .before .before .before .before .before .before .before .before .ended .ensures _ (shares-kept b s) (new b)) (c .before .before .before .before .before .before .made2 .given .1) (λ q. annotates (new q) (c .before .before .before .before .before .before .before .before .before .label .result) (c .before .before .annotate .ensures))))
 
 pub row-spec : {M : Type 1} → statement M
 row-spec =
