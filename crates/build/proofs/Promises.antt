@@ -56,6 +56,7 @@ module _ (c : Counts) (table text : List ℕ) where
       let is : counted c′ (o .table) (o .text) ≡ b .sheet = stands-counted (t .0) in
       record {
         valid = subst (λ (s : Sheet). firstFault (s .table) (s .text) (s .counts .nodes) ≡ none) (sym is) (clean-none (m .clean));
+        grown = rw (t .0 .counts) (more-nodes (m .grown));
         older = λ k h. ap (λ (s : Sheet). docOf s k) is ∙ still clean m k h;
         present = rw (t .1, t .0 .counts) (m .present);
         unfolds = ap (λ (s : Sheet). docOf s (n .0)) is ∙ ap (docOf (b .sheet)) (t .1) ∙ m .unfolds;

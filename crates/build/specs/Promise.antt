@@ -1,6 +1,6 @@
 -- What constructors promise of valid tables: a new node keeps them valid, leaves the older nodes' documents as they were,
 -- and unfolds to the document that was asked for. proofs/Promises.antt has it of each constructor.
-use Prim.Native.Nat.{ℕ, _*_, _<_}
+use Prim.Native.Nat.{ℕ, _*_, _≤_, _<_}
 use mathlib.Core.Path.{_≡_}
 use mathlib.Core.List.{List}
 use lib.ListN.{take}
@@ -24,6 +24,7 @@ module _ (c : Counts) (table text : List ℕ) where
 -- from counts c over table and text to counts c′ with node n
 pub record Builds (c : Counts) (table text : List ℕ) (o : Outcome) (d : Doc) (c′ : Counts) (n : NodeNo) : Type 0 where
   pub valid : Valid c′ (o .table) (o .text)
+  pub grown : c .nodes ≤ c′ .nodes
   pub older : (m : ℕ) → m < c .nodes → docAt c′ (o .table) (o .text) m ≡ docAt c table text m
   pub present : n .0 < c′ .nodes
   pub unfolds : docAt c′ (o .table) (o .text) (n .0) ≡ d

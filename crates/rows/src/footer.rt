@@ -2,8 +2,17 @@
 //
 // The notes are a block: behind their heading on one line where they fit, else filled below it.
 ghost use mathlib.Core.Path.{_≡_};
-ghost use lib.ListN.{length};
+ghost use lib.ListN.{length, drop};
+ghost use mathlib.Core.List.{[], map};
+ghost use Rattle.table.specs.Document.{Doc, nil};
+ghost use Rattle.build.specs.Documents.{softlineDoc, intersperseDoc};
+ghost use Rattle.pallets.specs.Lines.{lines};
+ghost use Rattle.pallets.specs.Standing.{outNotes};
+ghost use Rattle.rows.specs.Bytes.{digitsOn};
+ghost use Rattle.rows.specs.Documents.{leafDoc, withinDoc, commaDoc, headedDoc, toldDoc, footerDoc};
+ghost use Rattle.rows.specs.Build.{Is, Shares, Gives};
 use crate::Shared;
+use crate::texts::behind;
 use crate::texts::leaf;
 use crate::texts::put;
 use crate::words::BELOW;
@@ -20,7 +29,7 @@ use table::NodeNo;
 
 // Puts a number's digits at the end; gives where the first of them stands.
 fn put_digits(out: &mut [u8], n: usize) -> usize
-    ensures { λ r. ⌜ length (now (out .exit)) ≡ length (now (out .entry)) ⌝ }
+    ensures { λ r. ⌜ drop r (now (out .exit)) ≡ digitsOn (length (now (out .entry))) n [] ⌝ }
 {
     let mut n = n;
     let mut at = out.len();
@@ -36,21 +45,25 @@ fn put_digits(out: &mut [u8], n: usize) -> usize
 }
 
 // That so many pallets are all within tolerance.
-fn all_within(c: Counts, table: &mut [u32], text: &mut [u8], rows: usize) -> Made {
+fn all_within(c: Counts, table: &mut [u32], text: &mut [u8], rows: usize) -> Made
+    ensures { λ r. ⌜ (Gives c (now (table .entry)) (now (text .entry)) r (now (table .exit)) (now (text .exit)) (withinDoc rows)) ⌝ }
+{
     if rows == 1 {
         return leaf(c, table, text, b"The pallet is within tolerance");
     }
     let mut digits = [0u8; 20];
     let first = put_digits(&mut digits, rows);
     let mut space = [32u8; 64];
-    let n = put(&mut space, 0, b"All ", 0, 4);
-    let n = put(&mut space, n, &digits, first, 20);
-    let n = put(&mut space, n, b" pallets are within tolerance", 0, 29);
+    let n = put(&mut space, 0, b"All ");
+    let n = put(&mut space, n, behind(&digits, first));
+    let n = put(&mut space, n, b" pallets are within tolerance");
     leaf(c, table, text, front(&space, n))
 }
 
 // A comma, and a place to break.
-fn comma(c: Counts, table: &mut [u32], text: &mut [u8], softline: NodeNo) -> Made {
+fn comma(c: Counts, table: &mut [u32], text: &mut [u8], softline: NodeNo) -> Made
+    ensures { λ r. ⌜ (Is c (now (table .entry)) (now (text .entry)) softline softlineDoc → Gives c (now (table .entry)) (now (text .entry)) r (now (table .exit)) (now (text .exit)) commaDoc) ⌝ }
+{
     let made = leaf(c, table, text, b",");
     let Made::Node(c, n) = made else {
         return made;
@@ -66,7 +79,9 @@ fn notes(
     none: NodeNo,
     comma: NodeNo,
     input: &[u8],
-) -> Made {
+) -> Made
+    ensures { λ r. ⌜ (Is c (now (table .entry)) (now (text .entry)) none nil → Is c (now (table .entry)) (now (text .entry)) comma commaDoc → Gives c (now (table .entry)) (now (text .entry)) r (now (table .exit)) (now (text .exit)) (intersperseDoc (map leafDoc (outNotes (lines (now (input .entry))))) commaDoc)) ⌝ }
+{
     let mut c = c;
     let mut n = none;
     let mut between = none;
@@ -89,7 +104,9 @@ fn notes(
 }
 
 // The block of a heading and these notes, which start on a line of their own where they don't fit behind it.
-fn blocked(c: Counts, table: &mut [u32], text: &mut [u8], shared: Shared, notes: NodeNo) -> Made {
+fn blocked(c: Counts, table: &mut [u32], text: &mut [u8], shared: Shared, notes: NodeNo) -> Made
+    ensures { λ r. ⌜ ((d : Doc) → Shares c (now (table .entry)) (now (text .entry)) shared → Is c (now (table .entry)) (now (text .entry)) notes d → Gives c (now (table .entry)) (now (text .entry)) r (now (table .exit)) (now (text .exit)) (headedDoc d)) ⌝ }
+{
     let none = shared.none;
     let line = shared.line;
     let made = c.append(table, text, line, notes);
@@ -112,7 +129,9 @@ fn blocked(c: Counts, table: &mut [u32], text: &mut [u8], shared: Shared, notes:
 }
 
 // The block that names the notes out of tolerance.
-fn named(c: Counts, table: &mut [u32], text: &mut [u8], shared: Shared, input: &[u8]) -> Made {
+fn named(c: Counts, table: &mut [u32], text: &mut [u8], shared: Shared, input: &[u8]) -> Made
+    ensures { λ r. ⌜ (Shares c (now (table .entry)) (now (text .entry)) shared → Gives c (now (table .entry)) (now (text .entry)) r (now (table .exit)) (now (text .exit)) (headedDoc (intersperseDoc (map leafDoc (outNotes (lines (now (input .entry))))) commaDoc))) ⌝ }
+{
     let none = shared.none;
     let softline = shared.softline;
     let made = comma(c, table, text, softline);
@@ -135,7 +154,10 @@ fn said(
     input: &[u8],
     rows: usize,
     out: usize,
-) -> Made {
+) -> Made
+    requires { ⌜ out ≡ length (outNotes (lines (now input))) ⌝ }
+    ensures { λ r. ⌜ (Shares c (now (table .entry)) (now (text .entry)) shared → Gives c (now (table .entry)) (now (text .entry)) r (now (table .exit)) (now (text .exit)) (toldDoc rows (outNotes (lines (now (input .entry)))))) ⌝ }
+{
     if out == 0 {
         return all_within(c, table, text, rows);
     }
@@ -143,7 +165,9 @@ fn said(
 }
 
 // An empty line, the footer of an input and a Hardline; of an input without rows the shared Nil.
-pub fn footer(c: Counts, table: &mut [u32], text: &mut [u8], shared: Shared, input: &[u8]) -> Made {
+pub fn footer(c: Counts, table: &mut [u32], text: &mut [u8], shared: Shared, input: &[u8]) -> Made
+    ensures { λ r. ⌜ (Shares c (now (table .entry)) (now (text .entry)) shared → Gives c (now (table .entry)) (now (text .entry)) r (now (table .exit)) (now (text .exit)) (footerDoc (lines (now (input .entry))))) ⌝ }
+{
     let none = shared.none;
     let hardline = shared.hardline;
     let tally = count(input);

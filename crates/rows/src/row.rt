@@ -5,7 +5,15 @@
 ghost use mathlib.Core.Path.{_≡_};
 ghost use Prim.Native.Nat.{_≤_};
 ghost use lib.ListN.{length};
+ghost use Rattle.table.specs.Document.{Doc, union};
+ghost use Rattle.pallets.specs.Pallets.{parsed};
+ghost use Rattle.pallets.specs.declared.Line.the-variants.{Row};
+ghost use Rattle.rows.specs.Bytes.{Adds, right, fields};
+ghost use Rattle.rows.specs.Words.{remark};
+ghost use Rattle.rows.specs.Documents.{besideDoc, lowerDoc, belowDoc, endedDoc, rowDoc};
+ghost use Rattle.rows.specs.Build.{Is, Shares, Gives};
 use crate::Shared;
+use crate::texts::behind;
 use crate::texts::further;
 use crate::texts::leaf;
 use crate::texts::missing;
@@ -18,6 +26,10 @@ use crate::words::trimmed;
 use build::Counts;
 use build::Made;
 use pallets::Pallet;
+use pallets::bytes::columns;
+use pallets::bytes::front;
+use pallets::bytes::part_end;
+use pallets::tolerance::label;
 use table::Indent;
 use table::NodeNo;
 
@@ -29,34 +41,27 @@ const FORCE: usize = 4;
 const PLUCK: usize = 6;
 
 // Puts the field that starts there so that it ends in a column, and what it is measured in behind it.
-fn put_field(
-    out: &mut [u8],
-    at: usize,
-    line: &[u8],
-    from: usize,
-    width: usize,
-    unit: &[u8],
-) -> usize
-    ensures { λ r. ⌜ (r ≤ length (now (out .exit))) × (length (now (out .exit)) ≡ length (now (out .entry))) ⌝ }
+fn put_field(out: &mut [u8], at: usize, s: &[u8], width: usize, unit: &[u8]) -> usize
+    requires { ⌜ at ≤ length (now out) ⌝ }
+    ensures { λ r. ⌜ (Adds (now (out .entry)) at (right (now (s .entry)) width (now (unit .entry))) (now (out .exit)) r) × (r ≤ length (now (out .exit))) ⌝ }
 {
-    let end = pallets::bytes::part_end(line, from, b';');
-    let blanks = missing(end - from, width);
+    let size = part_end(s, 0, b';');
+    let blanks = missing(size, width);
     let at = further(out, at, blanks);
-    let at = put(out, at, line, from, end);
-    put(out, at, unit, 0, unit.len())
+    let at = put(out, at, front(s, size));
+    put(out, at, unit)
 }
 
 // Puts a row's note, force and pluck point, as the line has them, between blanks.
 fn put_row(out: &mut [u8], line: &[u8], p: Pallet) -> usize
-    ensures { λ r. ⌜ (r ≤ length (now (out .exit))) × (length (now (out .exit)) ≡ length (now (out .entry))) ⌝ }
+    ensures { λ r. ⌜ (Adds (now (out .entry)) 0 (fields (now (line .entry)) p) (now (out .exit)) r) ⌝ }
 {
-    let end = pallets::bytes::part_end(line, 0, b';');
-    let n = put(out, 0, line, 0, end);
-    let wide = pallets::bytes::columns(pallets::bytes::front(out, n));
-    let blanks = missing(wide, NOTE);
-    let at = further(out, n, blanks);
-    let at = put_field(out, at, line, p.force, FORCE, b" g");
-    put_field(out, at, line, p.pluck, PLUCK, b" mm")
+    let note = front(line, part_end(line, 0, b';'));
+    let blanks = missing(columns(note), NOTE);
+    let at = put(out, 0, note);
+    let at = further(out, at, blanks);
+    let at = put_field(out, at, behind(line, p.force), FORCE, b" g");
+    put_field(out, at, behind(line, p.pluck), PLUCK, b" mm")
 }
 
 // The remark beside the row, and a Hardline.
@@ -66,11 +71,14 @@ fn beside(
     text: &mut [u8],
     shared: Shared,
     fixed: NodeNo,
-    remark: &[u8],
-) -> Made {
+    says: &[u8],
+) -> Made
+    requires { ⌜ length (now says) ≤ 200 ⌝ }
+    ensures { λ r. ⌜ ((d : Doc) → Shares c (now (table .entry)) (now (text .entry)) shared → Is c (now (table .entry)) (now (text .entry)) fixed d → Gives c (now (table .entry)) (now (text .entry)) r (now (table .exit)) (now (text .exit)) (besideDoc d (now (says .entry)))) ⌝ }
+{
     let mut space = [32u8; 256];
-    let n = put(&mut space, 2, remark, 0, remark.len());
-    let made = leaf(c, table, text, pallets::bytes::front(&space, n));
+    let n = put(&mut space, 2, says);
+    let made = leaf(c, table, text, front(&space, n));
     let Made::Node(c, one) = made else {
         return made;
     };
@@ -79,9 +87,11 @@ fn beside(
 }
 
 // The remark filled on lines of its own.
-fn lower(c: Counts, table: &mut [u32], text: &mut [u8], shared: Shared, remark: &[u8]) -> Made {
+fn lower(c: Counts, table: &mut [u32], text: &mut [u8], shared: Shared, says: &[u8]) -> Made
+    ensures { λ r. ⌜ (Shares c (now (table .entry)) (now (text .entry)) shared → Gives c (now (table .entry)) (now (text .entry)) r (now (table .exit)) (now (text .exit)) (lowerDoc (now (says .entry)))) ⌝ }
+{
     let hardline = shared.hardline;
-    let made = filled(c, table, text, shared, remark, 0, WRAPPED);
+    let made = filled(c, table, text, shared, says, WRAPPED);
     let Made::Node(c, words) = made else {
         return made;
     };
@@ -99,9 +109,11 @@ fn below(
     text: &mut [u8],
     shared: Shared,
     fixed: NodeNo,
-    remark: &[u8],
-) -> Made {
-    let made = lower(c, table, text, shared, remark);
+    says: &[u8],
+) -> Made
+    ensures { λ r. ⌜ ((d : Doc) → Shares c (now (table .entry)) (now (text .entry)) shared → Is c (now (table .entry)) (now (text .entry)) fixed d → Gives c (now (table .entry)) (now (text .entry)) r (now (table .exit)) (now (text .exit)) (belowDoc d (now (says .entry)))) ⌝ }
+{
+    let made = lower(c, table, text, shared, says);
     let Made::Node(c, one) = made else {
         return made;
     };
@@ -116,13 +128,16 @@ fn remarked(
     text: &mut [u8],
     shared: Shared,
     fixed: NodeNo,
-    remark: &[u8],
-) -> Made {
-    let made = beside(c, table, text, shared, fixed, remark);
+    says: &[u8],
+) -> Made
+    requires { ⌜ length (now says) ≤ 200 ⌝ }
+    ensures { λ r. ⌜ ((d : Doc) → Shares c (now (table .entry)) (now (text .entry)) shared → Is c (now (table .entry)) (now (text .entry)) fixed d → Gives c (now (table .entry)) (now (text .entry)) r (now (table .exit)) (now (text .exit)) (union (besideDoc d (now (says .entry))) (belowDoc d (now (says .entry))))) ⌝ }
+{
+    let made = beside(c, table, text, shared, fixed, says);
     let Made::Node(c, first) = made else {
         return made;
     };
-    let made = below(c, table, text, shared, fixed, remark);
+    let made = below(c, table, text, shared, fixed, says);
     let Made::Node(c, second) = made else {
         return made;
     };
@@ -138,7 +153,10 @@ fn ended(
     fixed: NodeNo,
     line: &[u8],
     from: usize,
-) -> Made {
+) -> Made
+    requires { ⌜ length (now line) ≤ 200 ⌝ }
+    ensures { λ r. ⌜ ((d : Doc) → Shares c (now (table .entry)) (now (text .entry)) shared → Is c (now (table .entry)) (now (text .entry)) fixed d → Gives c (now (table .entry)) (now (text .entry)) r (now (table .exit)) (now (text .exit)) (endedDoc d (remark (now (line .entry)) from))) ⌝ }
+{
     let hardline = shared.hardline;
     let end = trimmed(line);
     let from = skip(line, from);
@@ -156,20 +174,23 @@ pub fn row(
     shared: Shared,
     line: &[u8],
     p: Pallet,
-) -> Made {
+) -> Made
+    requires { ⌜ parsed (now line) ≡ Row p ⌝ }
+    ensures { λ r. ⌜ (Shares c (now (table .entry)) (now (text .entry)) shared → Gives c (now (table .entry)) (now (text .entry)) r (now (table .exit)) (now (text .exit)) (rowDoc (now (line .entry)) p)) ⌝ }
+{
     let mut space = [32u8; 64];
     let n = put_row(&mut space, line, p);
-    let made = leaf(c, table, text, pallets::bytes::front(&space, n));
+    let made = leaf(c, table, text, front(&space, n));
     let Made::Node(c, fixed) = made else {
         return made;
     };
     let made = ended(c, table, text, shared, fixed, line, p.remark);
-    let label = pallets::tolerance::label(p.grams, p.tenths);
-    if label == 0 {
+    let mark = label(p.grams, p.tenths);
+    if mark == 0 {
         return made;
     }
     let Made::Node(c, n) = made else {
         return made;
     };
-    c.annotate(table, text, n, label)
+    c.annotate(table, text, n, mark)
 }

@@ -1,14 +1,20 @@
 // Texts: a Text of bytes, and bytes put into a row at a place.
 ghost use mathlib.Core.Path.{_≡_};
-ghost use Prim.Native.Nat.{_≤_};
-ghost use lib.ListN.{length};
+ghost use Prim.Native.Nat.{_+_, _-_, _≤_};
+ghost use lib.ListN.{length, drop, replicate};
+ghost use Rattle.rows.specs.Bytes.{Placed, Adds};
+ghost use Rattle.rows.specs.Documents.{leafDoc};
+ghost use Rattle.rows.specs.Build.{Gives};
+use buffer::copy_bytes;
 use build::Counts;
 use build::Made;
 use build::Why;
 use table::Column;
 
 // A Text of these bytes, a column for each character.
-pub fn leaf(c: Counts, table: &mut [u32], text: &mut [u8], bytes: &[u8]) -> Made {
+pub fn leaf(c: Counts, table: &mut [u32], text: &mut [u8], bytes: &[u8]) -> Made
+    ensures { λ r. ⌜ (Gives c (now (table .entry)) (now (text .entry)) r (now (table .exit)) (now (text .exit)) (leafDoc (now (bytes .entry)))) ⌝ }
+{
     let wide = pallets::bytes::columns(bytes);
     if 65536 < wide {
         return Made::Refused(Why::Bytes);
@@ -16,36 +22,35 @@ pub fn leaf(c: Counts, table: &mut [u32], text: &mut [u8], bytes: &[u8]) -> Made
     c.text(table, text, bytes, Column(wide as u32))
 }
 
-// Puts a part of the source at a place, as far as there is such a part and room for it; gives the place behind it.
-pub fn put(out: &mut [u8], at: usize, src: &[u8], from: usize, end: usize) -> usize
-    ensures { λ r. ⌜ (r ≤ length (now (out .exit))) × (length (now (out .exit)) ≡ length (now (out .entry))) ⌝ }
+// What stands from there on; past the end nothing.
+pub fn behind(s: &[u8], from: usize) -> &[u8]
+    ensures { λ r. ⌜ now r ≡ drop from (now (s .entry)) ⌝ }
 {
-    if out.len() < at {
-        return out.len();
+    let n = s.len();
+    if n < from {
+        return &s[n..];
     }
-    let mut n = at;
-    let mut i = from;
-    while i < end {
-        if src.len() <= i {
-            return n;
-        }
-        if out.len() <= n {
-            return n;
-        }
-        out[n] = src[i];
-        n += 1;
-        i += 1;
-    }
-    n
+    &s[from..]
 }
 
-// The place so many bytes further, where there is room for them.
-pub fn further(out: &[u8], at: usize, by: usize) -> usize
-    ensures { λ r. ⌜ r ≤ length (now (out .entry)) ⌝ }
+// Puts bytes at a place, as far as there is room for them; gives the place behind them.
+pub fn put(out: &mut [u8], at: usize, bytes: &[u8]) -> usize
+    requires { ⌜ at ≤ length (now out) ⌝ }
+    ensures { λ r. ⌜ Placed (now (out .entry)) at (now (bytes .entry)) (now (out .exit)) r ⌝ }
 {
-    if out.len() < at {
-        return out.len();
+    let mut n = out.len() - at;
+    if bytes.len() < n {
+        n = bytes.len();
     }
+    copy_bytes(bytes, 0, n, out, at);
+    at + n
+}
+
+// The place so many bytes further, where there is room for them: over blanks, these are written.
+pub fn further(out: &[u8], at: usize, by: usize) -> usize
+    requires { ⌜ at ≤ length (now out) ⌝ }
+    ensures { λ r. ⌜ (Adds (now (out .entry)) at (replicate by 32) (now (out .entry)) r) × (r ≤ length (now (out .entry))) ⌝ }
+{
     if out.len() - at < by {
         return out.len();
     }
@@ -53,7 +58,9 @@ pub fn further(out: &[u8], at: usize, by: usize) -> usize
 }
 
 // How much is missing to a width.
-pub fn missing(size: usize, width: usize) -> usize {
+pub fn missing(size: usize, width: usize) -> usize
+    ensures { λ r. ⌜ r ≡ width - size ⌝ }
+{
     if width <= size {
         return 0;
     }

@@ -1,6 +1,14 @@
 // Words: a text cut at its blanks and filled by softlines.
-ghost use Prim.Native.Nat.{_≤_, _<_};
+ghost use mathlib.Core.Path.{_≡_};
+ghost use Prim.Native.Nat.{_<_, _≤_};
 ghost use lib.ListN.{length};
+ghost use Rattle.table.specs.Pick.{pick};
+ghost use lib.Dec.{eqb};
+ghost use Rattle.table.specs.Document.{Doc};
+ghost use Rattle.build.specs.Documents.{appendDoc};
+ghost use Rattle.rows.specs.Words.{skipped, trimmed, ends, together};
+ghost use Rattle.rows.specs.Documents.{leafDoc, filledDoc};
+ghost use Rattle.rows.specs.Build.{Is, Shares, Gives};
 use crate::Shared;
 use crate::texts::leaf;
 use build::Counts;
@@ -20,7 +28,7 @@ const TOGETHER: usize = 12;
 
 // The next place from there on that is no blank.
 pub fn skip(s: &[u8], from: usize) -> usize
-    ensures { λ r. ⌜ from ≤ r ⌝ }
+    ensures { λ r. ⌜ r ≡ skipped (now (s .entry)) from ⌝ }
 {
     let mut i = from;
     while i < s.len() {
@@ -34,7 +42,7 @@ pub fn skip(s: &[u8], from: usize) -> usize
 
 // Where the blanks at the end start.
 pub fn trimmed(s: &[u8]) -> usize
-    ensures { λ r. ⌜ r ≤ length (now (s .entry)) ⌝ }
+    ensures { λ r. ⌜ r ≡ trimmed (now (s .entry)) ⌝ }
 {
     let mut n = s.len();
     while 0 < n {
@@ -47,7 +55,9 @@ pub fn trimmed(s: &[u8]) -> usize
 }
 
 // Whether no more goes into so many columns of words: they are enough and a blank follows, or they are all that there is room for.
-fn ends(wide: usize, b: u8, most: usize) -> bool {
+fn ends(wide: usize, b: u8, most: usize) -> bool
+    ensures { λ r. ⌜ r ≡ ends most wide b ⌝ }
+{
     if most <= wide {
         return true;
     }
@@ -56,8 +66,7 @@ fn ends(wide: usize, b: u8, most: usize) -> bool {
 
 // The last blank, after one byte more.
 fn last_blank(last: usize, i: usize, b: u8) -> usize
-    requires { ⌜ last ≤ i ⌝ }
-    ensures { λ r. ⌜ (last ≤ r) × (r ≤ i) ⌝ }
+    ensures { λ r. ⌜ r ≡ pick (eqb b 32) i last ⌝ }
 {
     if b == b' ' {
         return i;
@@ -65,15 +74,15 @@ fn last_blank(last: usize, i: usize, b: u8) -> usize
     last
 }
 
-// Where the words end that stay together from there on: at a blank once they have enough columns; else, before they have more than
+// Where the words end that stay together: at a blank once they have enough columns; else, before they have more than
 // `most`, at the last blank, so that a word is cut only if it has no room on a line of its own.
-fn together(s: &[u8], from: usize, most: usize) -> usize
-    requires { ⌜ from < length (now s) ⌝ }
-    ensures { λ r. ⌜ (from < r) × (r ≤ length (now (s .entry))) ⌝ }
+fn together(s: &[u8], most: usize) -> usize
+    requires { ⌜ 0 < length (now s) ⌝ }
+    ensures { λ r. ⌜ (r ≡ together most (now (s .entry))) × (0 < r) × (r ≤ length (now (s .entry))) ⌝ }
 {
     let mut wide: usize = 1;
-    let mut last = from;
-    let mut i = from + 1;
+    let mut last = 0;
+    let mut i = 1;
     while i < s.len() {
         let b = s[i];
         let starts = (b < 128) | (191 < b);
@@ -83,7 +92,7 @@ fn together(s: &[u8], from: usize, most: usize) -> usize
         }
         last = last_blank(last, i, b);
         if ends(wide, b, most) {
-            if from < last {
+            if 0 < last {
                 return last;
             }
             return i;
@@ -102,7 +111,9 @@ pub fn add_word(
     n: NodeNo,
     between: NodeNo,
     bytes: &[u8],
-) -> Made {
+) -> Made
+    ensures { λ r. ⌜ ((d e : Doc) → Is c (now (table .entry)) (now (text .entry)) n d → Is c (now (table .entry)) (now (text .entry)) between e → Gives c (now (table .entry)) (now (text .entry)) r (now (table .exit)) (now (text .exit)) (appendDoc (appendDoc d e) (leafDoc (now (bytes .entry))))) ⌝ }
+{
     let made = c.append(table, text, n, between);
     let Made::Node(c, n) = made else {
         return made;
@@ -114,23 +125,25 @@ pub fn add_word(
     c.append(table, text, n, word)
 }
 
-// The words from there on, filled by softlines on lines of so many columns; of none the shared Nil.
+// The words of a text, filled by softlines on lines of so many columns; of none the shared Nil.
 pub fn filled(
     c: Counts,
     table: &mut [u32],
     text: &mut [u8],
     shared: Shared,
     s: &[u8],
-    from: usize,
     most: usize,
-) -> Made {
+) -> Made
+    ensures { λ r. ⌜ (Shares c (now (table .entry)) (now (text .entry)) shared → Gives c (now (table .entry)) (now (text .entry)) r (now (table .exit)) (now (text .exit)) (filledDoc most (now (s .entry)))) ⌝ }
+{
     let softline = shared.softline;
     let mut c = c;
     let mut n = shared.none;
     let mut between = n;
-    let mut at = skip(s, from);
+    let mut at = skip(s, 0);
     while at < s.len() {
-        let end = together(s, at, most);
+        let size = together(&s[at..], most);
+        let end = at + size;
         let made = add_word(c, table, text, n, between, &s[at..end]);
         let Made::Node(next, joined) = made else {
             return made;

@@ -1,39 +1,43 @@
--- `rows::add_lines` is safe and ends. Assumes nothing.
-use Rattle.pallets.proofs.Saying.{part-within}
+-- `rows::add_lines` meets its contract: the lines so far and those to come are all. Assumes nothing.
 use borrow.Author.Needs.{needs}
 use native.Mathlib.Omega.{arith}
-use mathlib.Core.Path.{_≡_}
-use Prim.Native.Nat.{_-_, _≤_}
-use lib.ListN.{length}
+use Prim.Native.Nat.{_+_, _-_, _≤_}
+use mathlib.Core.Path.{_≡_, ap, _∙_}
+use lib.ListN.{length, drop}
+use Rattle.build.specs.Promise.{Valid}
+use Rattle.pallets.specs.Lines.{lines}
+use Rattle.pallets.proofs.Saying.{part-within}
+use Rattle.rows.specs.Build.{Shares}
+use Rattle.rows.proofs.Sheets.{count-next, no-lines, Lined, none-lined, one-lined, all-lined}
 use Rattle.rows.proofs.add_lines.Statement.{statement}
 use Rattle.rows.proofs.add_lines.Tie as tie
 
 abbrev Inv-loop : tie.InvT-loop
-Inv-loop table₀ text₀ shared input c₀ n₀ line₀ at₀ table text c n line at = (length table ≡ length table₀) × (length text ≡ length text₀) × (line ≤ at)
+Inv-loop table₀ text₀ shared input c₀ n₀ line₀ at₀ table text c n line at = (length table ≡ length table₀) × (length text ≡ length text₀) × (line ≤ at) × (line + length (lines (drop at input)) ≡ length (lines input)) × (Valid c₀ table₀ text₀ → Shares c₀ table₀ text₀ shared → Lined shared input at c table text n)
 
 abbrev μ-loop : tie.MeasureT-loop
 μ-loop table₀ text₀ shared input c₀ n₀ line₀ at₀ table text c n line at = length input - at
 
 loop-holds : tie.Need-loop-holds Inv-loop μ-loop
-loop-holds c = search needs
+loop-holds c = let a = c .before .before .before .before .args in (search needs, search needs, omega arith, omega arith, none-lined (a .input .now) (a .c) (a .table .now) (a .text .now) (a .shared))
 
 part-end-requires : tie.Need-part-end-requires Inv-loop μ-loop
-part-end-requires c κs = search needs
+part-end-requires c κs = tt
 
 sub-added : tie.Need-sub-added Inv-loop μ-loop
-sub-added c = search needs
+sub-added c = omega (arith, c .before .before .part-end .ensures)
 
 part-added-start : tie.Need-part-added-start Inv-loop μ-loop
-part-added-start c = search needs
+part-added-start c = omega (arith, c .before .before .part-end .ensures)
 
 part-added-end : tie.Need-part-added-end Inv-loop μ-loop
 part-added-end c = omega (arith, part-within (c .before .before .before .before .before .before .before .before .before .args .input .now) (c .before .before .before .before .loop .at) 10 (omega arith), c .before .before .part-end .ensures)
 
 added-requires : tie.Need-added-requires Inv-loop μ-loop
-added-requires c κs = search needs
+added-requires c κs = tt
 
 add-line : tie.Need-add-line Inv-loop μ-loop
-add-line c = search needs
+add-line c = omega arith
 
 add-at : tie.Need-add-at Inv-loop μ-loop
 add-at c = omega (arith, part-within (c .before .before .before .before .before .before .before .before .before .before .before .before .before .before .before .args .input .now) (c .before .before .before .before .before .before .before .before .before .before .loop .at) 10 (omega arith), c .before .before .before .before .before .before .before .before .part-end .ensures)
@@ -42,13 +46,13 @@ enum-known-made : tie.Need-enum-known-made Inv-loop μ-loop
 enum-known-made c = search needs
 
 same-length : tie.Need-same-length Inv-loop μ-loop
-same-length c = search needs
+same-length c = c .before .before .before .before .before .before .before .added .kept .1 .0 ∙ c .before .before .before .before .before .before .before .before .before .before .before .before .before .loop .inv .0
 
 same-length-2 : tie.Need-same-length-2 Inv-loop μ-loop
-same-length-2 c = search needs
+same-length-2 c = c .before .before .before .before .before .before .before .added .kept .1 .1 .0 ∙ c .before .before .before .before .before .before .before .before .before .before .before .before .before .loop .inv .1
 
 returns : tie.Need-returns Inv-loop μ-loop
-returns c = search needs
+returns c = λ v s. omega (arith, count-next (c .before .before .before .before .before .before .before .before .before .before .before .before .before .before .before .before .before .before .args .input .now) (c .before .before .before .before .before .before .before .before .before .before .before .before .before .loop .at) (c .before .before .before .before .before .before .before .before .before .before .before .part-end .result) (c .before .before .before .before .before .before .before .before .before .before .before .part-end .ensures) (omega arith), c .before .before .before .before .before .before .before .before .before .before .before .before .before .loop .inv .3)
 
 enum-known-made-2 : tie.Need-enum-known-made-2 Inv-loop μ-loop
 enum-known-made-2 c = search needs
@@ -57,16 +61,16 @@ loop-less : tie.Need-loop-less Inv-loop μ-loop
 loop-less c = omega (arith, c .before .before .before .before .before .before .before .before .before .before .before .part-end .ensures)
 
 loop-again : tie.Need-loop-again Inv-loop μ-loop
-loop-again c = search needs
+loop-again c = let L = c .before .before .before .before .before .before .before .before .before .before .before .before .before .loop in (search needs, search needs, omega (arith, c .before .before .before .before .before .before .before .before .before .before .before .part-end .ensures, L .inv .2), omega (arith, count-next (c .before .before .before .before .before .before .before .before .before .before .before .before .before .before .before .before .before .before .args .input .now) (L .at) (c .before .before .before .before .before .before .before .before .before .before .before .part-end .result) (c .before .before .before .before .before .before .before .before .before .before .before .part-end .ensures) (omega arith), L .inv .3), λ v s. one-lined (L .inv .4 v s) (c .before .before .before .before .before .before .before .before .before .before .before .part-end .result) (c .before .before .before .before .before .before .before .before .before .before .before .part-end .ensures) (omega arith) (c .before .before .before .before .before .before .before .added .ensures) (c .before .made2 .given .1))
 
 same-length-3 : tie.Need-same-length-3 Inv-loop μ-loop
-same-length-3 c = search needs
+same-length-3 c = c .before .loop .inv .0
 
 same-length-4 : tie.Need-same-length-4 Inv-loop μ-loop
-same-length-4 c = search needs
+same-length-4 c = c .before .loop .inv .1
 
 returns-2 : tie.Need-returns-2 Inv-loop μ-loop
-returns-2 c = search needs
+returns-2 c = let L = c .before .loop in λ v s. all-lined (L .inv .4 v s) (omega arith) (L .line) (omega (arith, ap length (no-lines (c .before .before .before .before .before .before .args .input .now) (L .at) (omega arith)), L .inv .3))
 
 pub add-lines-spec : {M : Type 1} → statement M
 add-lines-spec =

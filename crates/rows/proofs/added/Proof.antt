@@ -1,20 +1,25 @@
--- `rows::added` is safe and ends. Assumes nothing.
-use lib.Seq.{length-take-le}
-use Rattle.pallets.proofs.Saying.{body-within}
+-- `rows::added` meets its contract. Assumes nothing.
 use borrow.Author.Needs.{needs}
 use native.Mathlib.Omega.{arith}
-use mathlib.Core.Path.{sym}
+use Prim.Native.Nat.{ℕ}
+use mathlib.Core.Path.{refl, sym, ap, _∙_}
+use lib.ListN.{take}
+use lib.Seq.{length-take-le}
+use Rattle.pallets.specs.Pallets.{parsed}
+use Rattle.pallets.proofs.Saying.{body-within}
+use Rattle.rows.proofs.Chain.{new, kept, after, refused, gives, appends}
+use Rattle.rows.specs.Documents.{saysDoc, partDoc}
 use Rattle.rows.proofs.added.Statement.{statement}
 use Rattle.rows.proofs.added.Tie as tie
 
 body-end-requires : tie.Need-body-end-requires
-body-end-requires c κs = search needs
+body-end-requires c κs = tt
 
 slice-aggregate-part : tie.Need-slice-aggregate-part
 slice-aggregate-part c = sym (length-take-le _ _ (omega (arith, body-within (c .before .before .before .before .before .before .before .args .line .now), c .before .before .before .body-end .ensures)))
 
 part-requires : tie.Need-part-requires
-part-requires c κs = search needs
+part-requires c κs = tt
 
 enum-known-made : tie.Need-enum-known-made
 enum-known-made c = search needs
@@ -23,25 +28,26 @@ enum-told : tie.Need-enum-told
 enum-told c = search needs
 
 same-length : tie.Need-same-length
-same-length c = search needs
+same-length c = c .before .before .before .before .before .before .part .kept .1 .0
 
 same-length-2 : tie.Need-same-length-2
-same-length-2 c = search needs
+same-length-2 c = c .before .before .before .before .before .before .part .kept .1 .1 .0
 
 returns : tie.Need-returns
-returns c = search needs
+returns c = λ d s i. refused (c .enum-told .given .1)
 
 append-requires : tie.Need-append-requires
-append-requires c κs = search needs
+append-requires c κs = tt
 
 same-length-3 : tie.Need-same-length-3
-same-length-3 c = search needs
+same-length-3 c = c .before .before .append .kept .1 .0 ∙ c .before .before .before .before .before .before .before .before .before .before .before .before .part .kept .1 .0
 
 same-length-4 : tie.Need-same-length-4
-same-length-4 c = search needs
+same-length-4 c = c .before .before .before .before .before .before .before .before .before .before .before .before .part .kept .1 .1 .0
 
 returns-2 : tie.Need-returns-2
-returns-2 c = search needs
+unfolding partDoc
+returns-2 c = λ d s i. after (gives refl (ap (λ (n : ℕ). saysDoc (take n (c .before .before .before .before .before .before .before .before .before .before .before .before .before .before .before .before .before .before .before .before .args .line .now)) (parsed (take n (c .before .before .before .before .before .before .before .before .before .before .before .before .before .before .before .before .before .before .before .before .args .line .now)))) (c .before .before .before .before .before .before .before .before .before .before .before .before .before .before .before .before .body-end .ensures)) (c .before .before .before .before .before .before .before .before .before .before .before .before .part .ensures s)) (c .before .before .before .before .before .before .made .given .1) (λ b. appends (kept b i) (new b) (c .before .before .append .ensures))
 
 pub added-spec : {M : Type 1} → statement M
 added-spec =

@@ -1,36 +1,39 @@
--- `rows::words::skip` meets its contract. Assumes nothing.
-use borrow.Author.Needs.{needs}
+-- `rows::words::skip` meets its contract: the next place that is no blank from here on is the one from the start. Assumes nothing.
+use native.Mathlib.Omega.{arith}
 use Prim.Native.Nat.{_-_, _≤_}
+use mathlib.Core.Path.{_≡_, refl}
 use lib.ListN.{length}
+use Rattle.rows.specs.Words.{skipped}
+use Rattle.rows.proofs.Cutting.{blank-next, blank-not, no-blanks}
 use Rattle.rows.proofs.words.skip.Statement.{statement}
 use Rattle.rows.proofs.words.skip.Tie as tie
 
 abbrev Inv-loop : tie.InvT-loop
-Inv-loop s from i₀ i = from ≤ i
+Inv-loop s from i₀ i = (from ≤ i) × (skipped s i ≡ skipped s from)
 
 abbrev μ-loop : tie.MeasureT-loop
 μ-loop s from i₀ i = length s - i
 
 loop-holds : tie.Need-loop-holds Inv-loop μ-loop
-loop-holds c = search needs
+loop-holds c = (omega arith, refl)
 
 shared-slice-read-if1 : tie.Need-shared-slice-read-if1 Inv-loop μ-loop
-shared-slice-read-if1 c = search needs
+shared-slice-read-if1 c = omega arith
 
 returns : tie.Need-returns Inv-loop μ-loop
-returns c = search needs
+returns c = let L = c .before .before .before .loop in omega (arith, blank-not (c .before .before .before .before .args .s .now) (L .i) (omega arith) (c .if1 .taken), L .inv .1)
 
 add-i : tie.Need-add-i Inv-loop μ-loop
-add-i c = search needs
+add-i c = omega arith
 
 loop-less : tie.Need-loop-less Inv-loop μ-loop
-loop-less c = search needs
+loop-less c = omega arith
 
 loop-again : tie.Need-loop-again Inv-loop μ-loop
-loop-again c = search needs
+loop-again c = let L = c .before .before .before .loop in (omega arith, omega (arith, blank-next (c .before .before .before .before .args .s .now) (L .i) (omega arith) (c .if1 .left), L .inv .1))
 
 returns-2 : tie.Need-returns-2 Inv-loop μ-loop
-returns-2 c = search needs
+returns-2 c = let L = c .before .loop in omega (arith, no-blanks (c .before .before .args .s .now) (L .i) (omega arith), L .inv .1)
 
 pub skip-spec : {M : Type 1} → statement M
 skip-spec =

@@ -1,39 +1,43 @@
--- `rows::words::trimmed` meets its contract. Assumes nothing.
-use borrow.Author.Needs.{needs}
+-- `rows::words::trimmed` meets its contract: what is left is trimmed as the whole is. Assumes nothing.
+use native.Mathlib.Omega.{arith}
 use Prim.Native.Nat.{_≤_}
-use lib.ListN.{length}
+use mathlib.Core.Path.{_≡_, ap, sym, _∙_}
+use lib.ListN.{length, take}
+use lib.Seq.{take-length}
+use Rattle.rows.specs.Words.{trimmed}
+use Rattle.rows.proofs.Cutting.{trim-here, trim-next, trim-none}
 use Rattle.rows.proofs.words.trimmed.Statement.{statement}
 use Rattle.rows.proofs.words.trimmed.Tie as tie
 
 abbrev Inv-loop : tie.InvT-loop
-Inv-loop s n₀ n = n ≤ length s
+Inv-loop s n₀ n = (n ≤ length s) × (trimmed (take n s) ≡ trimmed s)
 
 abbrev μ-loop : tie.MeasureT-loop
 μ-loop s n₀ n = n
 
 loop-holds : tie.Need-loop-holds Inv-loop μ-loop
-loop-holds c = search needs
+loop-holds c = (omega arith, ap trimmed (take-length (c .args .s .now)))
 
 sub-if1 : tie.Need-sub-if1 Inv-loop μ-loop
-sub-if1 c = search needs
+sub-if1 c = omega arith
 
 shared-slice-read-if1 : tie.Need-shared-slice-read-if1 Inv-loop μ-loop
-shared-slice-read-if1 c = search needs
+shared-slice-read-if1 c = omega arith
 
 returns : tie.Need-returns Inv-loop μ-loop
-returns c = search needs
+returns c = let L = c .before .before .before .loop in sym (trim-here (c .before .before .before .before .args .s .now) (L .n) (omega arith) (omega arith) (c .if1 .taken)) ∙ L .inv .1
 
 sub-n : tie.Need-sub-n Inv-loop μ-loop
-sub-n c = search needs
+sub-n c = omega arith
 
 loop-less : tie.Need-loop-less Inv-loop μ-loop
-loop-less c = search needs
+loop-less c = omega arith
 
 loop-again : tie.Need-loop-again Inv-loop μ-loop
-loop-again c = search needs
+loop-again c = let L = c .before .before .before .loop in (omega arith, trim-next (c .before .before .before .before .args .s .now) (L .n) (omega arith) (omega arith) (c .if1 .left) ∙ L .inv .1)
 
 returns-2 : tie.Need-returns-2 Inv-loop μ-loop
-returns-2 c = search needs
+returns-2 c = let L = c .before .loop in trim-none (c .before .before .args .s .now) (L .n) (omega arith) ∙ L .inv .1
 
 pub trimmed-spec : {M : Type 1} → statement M
 trimmed-spec =

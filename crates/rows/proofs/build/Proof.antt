@@ -1,0 +1,51 @@
+-- `rows::build` meets its contract. Assumes nothing.
+use mathlib.Core.Path.{_∙_}
+use borrow.Author.Needs.{needs}
+use Rattle.rows.proofs.Sheets.{begun}
+use Rattle.rows.proofs.build.Statement.{statement}
+use Rattle.rows.proofs.build.Tie as tie
+
+share-requires : tie.Need-share-requires
+share-requires c κs = tt
+
+enum-known-start : tie.Need-enum-known-start
+enum-known-start c = search needs
+
+enum-told : tie.Need-enum-told
+enum-told c = search needs
+
+same-length : tie.Need-same-length
+same-length c = c .before .before .before .before .before .before .share .kept .0
+
+same-length-2 : tie.Need-same-length-2
+same-length-2 c = c .before .before .before .before .before .before .share .kept .1 .0
+
+returns : tie.Need-returns
+returns c = search needs
+
+whole-requires : tie.Need-whole-requires
+whole-requires c κs = tt
+
+same-length-3 : tie.Need-same-length-3
+same-length-3 c = c .before .before .before .before .whole .kept .1 .0 ∙ c .before .before .before .before .before .before .before .before .before .before .before .before .before .before .share .kept .0
+
+same-length-4 : tie.Need-same-length-4
+same-length-4 c = c .before .before .before .before .whole .kept .1 .1 .0 ∙ c .before .before .before .before .before .before .before .before .before .before .before .before .before .before .share .kept .1 .0
+
+returns-2 : tie.Need-returns-2
+returns-2 c = let s = begun _ _ (c .before .before .before .before .before .before .before .before .start .given .1) (c .before .before .before .before .before .before .before .before .before .before .before .before .before .before .share .ensures) in c .before .before .before .before .whole .ensures (s .0) (s .1)
+
+pub build-spec : {M : Type 1} → statement M
+build-spec =
+    tie.close
+    (tie.spec
+    share-requires
+    enum-known-start
+    enum-told
+    same-length
+    same-length-2
+    returns
+    whole-requires
+    same-length-3
+    same-length-4
+    returns-2)
