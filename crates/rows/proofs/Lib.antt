@@ -7,3 +7,4 @@ mod Columns
 mod Uncut
 mod Footing
 mod Sheets
+mod Sample

@@ -2,7 +2,7 @@
 --     front-is                  the bytes written are the front
 --     placed                    what was put
 --     place-adds, blanks-add    what is put is written behind them, and so are blanks passed over
---     then-adds, same-adds      one thing more, and the same said otherwise
+--     then-adds                 one thing more
 -- Assumes nothing.
 use Prim.Native.Nat.{ℕ, zero, suc, _+_, _-_, _≤_, min}
 use native.Mathlib.Omega.{arith}

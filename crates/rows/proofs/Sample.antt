@@ -1,0 +1,35 @@
+-- A sheet computed from the definitions: one pallet, its force out of tolerance, with a remark.
+-- Assumes nothing.
+use Prim.Native.Nat.{ℕ}
+use mathlib.Core.Path.{_≡_, refl}
+use mathlib.Core.List.{List, [], _∷_}
+use Rattle.table.specs.Node.{wayOf}
+use Rattle.table.specs.Document.{Doc, append, nest, hardline, text, annotated, union}
+use Rattle.table.specs.Utf8.{owed, wellFormed, ascii}
+use Rattle.build.specs.Documents.{appendDoc, groupDoc, nestDoc, textDoc, joinedDoc, concatDoc, separatedDoc, intersperseDoc}
+use Rattle.block.specs.Documents.{bareDoc, headDoc, tailDoc, coreDoc, wrapsDoc, alternativeDoc, unionsDoc, blockDoc}
+use Rattle.pallets.specs.Lines.{indexOf, lines, bodyEnd, characters, blank, controls}
+use Rattle.pallets.specs.Numbers.{digits, numberOf, tenthsAdd, tenthsOf}
+use Rattle.pallets.specs.Tolerance.{labelOf}
+use Rattle.pallets.specs.Pallets.{cutsAt, fieldsOf, measured, palletOf, palletAt, said, parsed}
+use Rattle.pallets.specs.Standing.{standing, standingOf, rowCount, outNotes}
+use Rattle.rows.specs.Bytes.{right, fields}
+use Rattle.rows.specs.Words.{blanks, trimmed, togetherOn, wordsOn}
+use Rattle.rows.specs.Documents.{filledDoc, besideDoc, lowerDoc, belowDoc, endedDoc, markedDoc, rowDoc, saysDoc, partDoc, headedDoc, toldDoc, footerDoc, linesDoc, sheetDoc}
+
+-- "A;140;1.2;dull" and a line feed
+input : List ℕ
+input = 65 ∷ 59 ∷ 49 ∷ 52 ∷ 48 ∷ 59 ∷ 49 ∷ 46 ∷ 50 ∷ 59 ∷ 100 ∷ 117 ∷ 108 ∷ 108 ∷ 10 ∷ []
+
+-- "A      140 g   1.2 mm"
+row : Doc
+row = text (65 ∷ 32 ∷ 32 ∷ 32 ∷ 32 ∷ 32 ∷ 32 ∷ 49 ∷ 52 ∷ 48 ∷ 32 ∷ 103 ∷ 32 ∷ 32 ∷ 32 ∷ 49 ∷ 46 ∷ 50 ∷ 32 ∷ 109 ∷ 109 ∷ []) 21
+
+-- "dull"
+remark : List ℕ
+remark = 100 ∷ 117 ∷ 108 ∷ 108 ∷ []
+
+-- the row with its mark, the remark beside it or below it; then the block that names it
+sample : sheetDoc input ≡ append (annotated (union (append (append row (text (32 ∷ 32 ∷ remark) 6)) hardline) (append (append row (nest (append hardline (text remark 4)) 4 (wayOf 0))) hardline)) 1) (append (append hardline (headedDoc (text (65 ∷ []) 1))) hardline)
+unfolding input row remark sheetDoc linesDoc footerDoc toldDoc partDoc saysDoc rowDoc markedDoc endedDoc besideDoc belowDoc lowerDoc filledDoc fields right blanks trimmed togetherOn wordsOn concatDoc joinedDoc appendDoc groupDoc nestDoc textDoc separatedDoc intersperseDoc lines bodyEnd characters blank controls indexOf digits numberOf tenthsAdd tenthsOf labelOf cutsAt fieldsOf measured palletOf palletAt said parsed standing standingOf rowCount outNotes owed wellFormed ascii headedDoc blockDoc unionsDoc alternativeDoc headDoc tailDoc wrapsDoc coreDoc bareDoc
+sample = refl
