@@ -2,8 +2,11 @@
 //
 // A line has lists with `|` between; what is no digit separates numbers, and `7*40` stands for 40 times 7. Numbers are taken
 // modulo 2^32, and a list that is longer than the words lent for it is cut. In order: one number, one list, the line.
+ghost use mathlib.Core.Path.{_≡_};
 ghost use Prim.Native.Nat.{_+_, _≤_, _<_};
-ghost use lib.ListN.{length};
+ghost use lib.ListN.{length, take};
+ghost use Rattle.buffer.specs.Run.{put};
+ghost use Rattle.lines.specs.Bytes.{bytesOf};
 
 // A number of a list, how many times it stands there, and where it ends.
 struct Item {
@@ -136,8 +139,10 @@ pub fn past(line: &[u8], end: usize) -> usize
     if end < line.len() { end + 1 } else { end }
 }
 
-// The numbers as bytes.
-pub fn narrow(wide: &[u32], bytes: &mut [u8]) {
+// The numbers as bytes, as far as there is room for them; the bytes behind them stay.
+pub fn narrow(wide: &[u32], bytes: &mut [u8])
+    ensures { λ _. ⌜ now (bytes .exit) ≡ put (now (bytes .entry)) 0 (take (length (now (bytes .entry))) (bytesOf (now (wide .entry)))) ⌝ }
+{
     let mut i = 0;
     while i < bytes.len() {
         if wide.len() <= i {

@@ -25,7 +25,7 @@ use Rattle.lay.specs.declared.State.{State}
 use Rattle.lay.specs.declared.Turn.the-variants.{Go, Done, Stop}
 use Rattle.lay.proofs.Events.{length-events}
 use Rattle.lay.proofs.Arms.{give-back}
-use Rattle.render.specs.TakeUp.{takeUp, TakenUp}
+use Rattle.render.specs.TakeUp.{Rises, takeUp, TakenUp}
 
 -- where what waits leads, over the output
 abbrev leads : Limits → State → List ℕ → List ℕ → List ℕ → Turned
@@ -41,7 +41,7 @@ pub record Rising (ev₀ w : List ℕ) (s₀ : State) (ev : List ℕ) (s : State
   pub used : s .used ≡ s₀ .used
   pub said : (L : Limits) (out : List ℕ) (N : ℕ) → L .slots ≡ length ev₀ / eventWords → s₀ .used ≤ length out → Stacked N (s₀ .used) (s₀ .marks) (stackOf (s₀ .depth) w) → Stacked N (s .used) (s .marks) (stackOf (s .depth) w) × (leads L s out ev w ≡ leads L s₀ out ev₀ w)
 
-pub rise-start : (ev w : List ℕ) (s : State) → (s .depth ≤ 1024) × (8192 ≤ length w) × (s .marks * eventWords ≤ length ev) × (length ev / eventWords ≤ 4096) × (s .used ≤ 65536) → Rising ev w s ev s
+pub rise-start : (ev w : List ℕ) (s : State) → Rises s ev w → Rising ev w s ev s
 rise-start ev w s h =
     record { depth = h .0; area = h .1; slots = h .3; marks = h .2; long = refl; used = refl; said = λ L out N e le st. (st, refl) }
 

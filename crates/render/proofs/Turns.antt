@@ -1,12 +1,11 @@
 -- A visit and what is taken up after it, in one.
 -- Assumes nothing.
 use mathlib.Core.Path.{_≡_, refl, sym, ap, subst}
-use Prim.Native.Nat.{ℕ, suc, _+_, _*_, _/_, _≤_}
+use Prim.Native.Nat.{ℕ, suc, _+_, _*_}
 use native.Mathlib.Omega.{arith}
 use mathlib.Core.List.{List, _∷_}
 use lib.ListN.{length, take}
 use lib.Seq.{length-take-le}
-use Rattle.rules.specs.Call.{eventWords}
 use Rattle.table.specs.declared.NodeNo.{NodeNo}
 use Rattle.machine.specs.Turn.{Turned, turn}
 use Rattle.machine.specs.Well.{Stacked, Well, weight}
@@ -20,7 +19,7 @@ use Rattle.lay.specs.declared.Turn.{Turn}
 use Rattle.lay.specs.declared.Turn.the-variants.{Go, Done, Stop}
 use Rattle.lay.proofs.Events.{length-events}
 use Rattle.render.specs.Visit.{Ready, Visited, envOf, visited, again}
-use Rattle.render.specs.TakeUp.{takeUp, upFrom, TakenUp, TurnedUp}
+use Rattle.render.specs.TakeUp.{Rises, takeUp, upFrom, TakenUp, TurnedUp}
 use Rattle.render.proofs.Again.{again-next}
 use Rattle.render.proofs.Rising.{go-is-not-done, stop-is-not-done}
 
@@ -59,7 +58,7 @@ module _ (T tx out ev w : List ℕ) (W : ℕ) (s : State) (h : Hand) (q : Ready 
       stacked : Stacked (q .N) (a .used) (a .marks) (stackOf (a .depth) w′)
       stacked = rw (length-take-le (a .used) out′ (done .turning 0 .used), length-events (a .marks) ev′) at (well .stack)
 
-      pub done-ready : length out′ ≡ length out → length w′ ≡ length w → (a .depth ≤ 1024) × (8192 ≤ length w′) × (a .marks * eventWords ≤ length ev′) × (length ev′ / eventWords ≤ 4096) × (a .used ≤ 65536)
+      pub done-ready : length out′ ≡ length out → length w′ ≡ length w → Rises a ev′ w′
       done-ready lo lw =
           (omega (arith, stacked-length (q .N) (a .used) (a .marks) (stackOf (a .depth) w′) stacked, length-stack (a .depth) w′, q .start .small), omega (arith, q .start .area), done .turning 0 .marks, omega (arith, q .start .slots), omega (arith, done .turning 0 .used, lo, q .start .room))
 

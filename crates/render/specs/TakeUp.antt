@@ -1,6 +1,6 @@
 -- What is taken up when a node is done: ends of annotations and trials, until a node is on top or nothing waits.
 use mathlib.Core.Path.{_≡_}
-use Prim.Native.Nat.{ℕ, _/_, _≤_}
+use Prim.Native.Nat.{ℕ, _*_, _/_, _≤_}
 use mathlib.Core.Bool.{Bool}
 use mathlib.Core.List.{List, [], _∷_}
 use lib.ListN.{length}
@@ -32,6 +32,10 @@ takeUp L p left over (mark n l ∷ w) =
 abbrev pub upFrom : Limits → Turned → Turned
 upFrom L (on p left over w) = takeUp L p left over w
 upFrom L (stop a n left) = stop a n left
+
+-- what is taken up from: what waits and the events lie within their bounds
+abbrev pub Rises : State → List ℕ → List ℕ → Type 0
+Rises s ev w = (s .depth ≤ 1024) × (8192 ≤ length w) × (s .marks * eventWords ≤ length ev) × (length ev / eventWords ≤ 4096) × (s .used ≤ 65536)
 
 -- over a state that is well, and any output; a node that is done, with nothing in hand, leaves nothing waiting
 pub record TakenUp (s : State) (ev w : List ℕ) (r : Turn) (ev′ : List ℕ) : Type 0 where

@@ -9,11 +9,8 @@ use table::Indent;
 use table::NodeNo;
 use waiting::Hand;
 use waiting::Mode;
-ghost use Prim.Native.Nat.{_+_, _*_, _/_, _≤_, _<_};
-ghost use lib.ListN.{length};
-ghost use Rattle.rules.specs.Call.{eventWords};
 ghost use Rattle.render.specs.Visit.{Start, Ready, Visited, Held, Came};
-ghost use Rattle.render.specs.TakeUp.{TakenUp, TurnedUp};
+ghost use Rattle.render.specs.TakeUp.{Rises, TakenUp, TurnedUp};
 ghost use Rattle.render.specs.Best.{Laid};
 
 // How a run ended: the answer, the place, the steps left, the bytes and the events used.
@@ -121,9 +118,9 @@ fn visit(
     }
 }
 
-// A node is done: ends are taken up, until a node goes on or nothing waits.
+// Ends are taken up, until a node goes on or nothing waits.
 fn take_up_ends(events: &mut [u32], work: &[u32], state: State) -> Turn
-    requires { ⌜ (state .depth ≤ 1024) × (8192 ≤ length (now work)) × (state .marks * eventWords ≤ length (now events)) × (length (now events) / eventWords ≤ 4096) × (state .used ≤ 65536) ⌝ }
+    requires { ⌜ Rises state (now events) (now work) ⌝ }
     ensures { λ r. ⌜ TakenUp state (now (events .entry)) (now (work .entry)) r (now (events .exit)) ⌝ }
 {
     let mut s = state;
@@ -151,9 +148,9 @@ fn take_up_ends(events: &mut [u32], work: &[u32], state: State) -> Turn
     Turn::Done(s)
 }
 
-// The same. Mostly a node is on top, and no end is to be taken up.
+// A node is done: a node on top goes on at once, as mostly; else ends are taken up first.
 fn take_up(events: &mut [u32], work: &[u32], state: State) -> Turn
-    requires { ⌜ (state .depth ≤ 1024) × (8192 ≤ length (now work)) × (state .marks * eventWords ≤ length (now events)) × (length (now events) / eventWords ≤ 4096) × (state .used ≤ 65536) ⌝ }
+    requires { ⌜ Rises state (now events) (now work) ⌝ }
     ensures { λ r. ⌜ TakenUp state (now (events .entry)) (now (work .entry)) r (now (events .exit)) ⌝ }
 {
     if 0 < state.depth {

@@ -1,0 +1,2 @@
+-- Laws of numbers as bytes.
+mod Storing

@@ -1,0 +1,2 @@
+-- What the numbers of a list are as bytes.
+pub mod Bytes
