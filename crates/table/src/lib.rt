@@ -4,12 +4,12 @@
 ghost use mathlib.Core.Path.{_≡_};
 ghost use mathlib.Core.Bool.{true};
 ghost use mathlib.Core.List.{List};
-ghost use Prim.Native.Nat.{ℕ, _/_, _≤_, _<_};
+ghost use Prim.Native.Nat.{ℕ, _+_, _*_, _/_, _≤_, _<_};
 ghost use lib.ListN.{length};
 ghost use Rattle.table.specs.Kinds.{kinds, kindAt};
 ghost use Rattle.table.specs.Utf8.{ascii};
 ghost use Rattle.table.specs.Parts.{Tells, textFault};
-ghost use Rattle.table.specs.Fault.{unusedZero, childrenBelow, nestInRange, faultOf, firstFault, sizesRight, check};
+ghost use Rattle.table.specs.Fault.{unusedZero, childrenBelow, nestInRange, faultOf, faultAt, firstFault, sizesRight, check};
 use utf8::below_128;
 use utf8::columns_right;
 use utf8::plainly_below_128;
@@ -217,6 +217,25 @@ fn node_fault(
     0
 }
 
+// What is wrong with node n: 0, or the first of 2, 3, 4, 5.
+fn fault_at(table: &[u32], text: &[u8], plain: bool, infos: [KindInfo; 11], n: NodeNo) -> u32
+    requires { ⌜ (plain ≡ ascii (now text)) × (n .0 * 4 + 4 ≤ length (now table)) × (length (now table) ≤ 4096) × (infos ≡ kinds) ⌝ }
+    ensures { λ r. ⌜ r ≡ faultAt (now (table .entry)) (now (text .entry)) (n .0) ⌝ }
+{
+    let at = n.0 as usize * 4;
+    let k = table[at];
+    let a = table[at + 1];
+    let b = table[at + 2];
+    let c = table[at + 3];
+    if plainly_right(n, k, a, b, c) {
+        return 0;
+    }
+    if 11 <= k {
+        return 2;
+    }
+    node_fault(text, plain, infos[k as usize], n, k, a, b, c)
+}
+
 // ---- the whole table
 
 // The first fault of the nodes from 0 up, unreachable ones too.
@@ -225,26 +244,15 @@ fn first_fault(table: &[u32], text: &[u8], plain: bool) -> Fault
     ensures { λ r. ⌜ Tells r (firstFault (now (table .entry)) (now (text .entry)) (length (now (table .entry)) / 4)) ⌝ }
 {
     let kinds = all_kinds();
-    let nodes = table.len() / 4;
+    let nodes = (table.len() / 4) as u32;
     let mut n = 0;
     while n < nodes {
-        let at = n * 4;
-        let place = NodeNo(n as u32);
-        let k = table[at];
-        let a = table[at + 1];
-        let b = table[at + 2];
-        let c = table[at + 3];
-        if plainly_right(place, k, a, b, c) {
-            n += 1;
-            continue;
-        }
-        if 11 <= k {
-            return Fault { answer: 2, place };
-        }
-        let info = kinds[k as usize];
-        let answer = node_fault(text, plain, info, place, k, a, b, c);
+        let answer = fault_at(table, text, plain, kinds, NodeNo(n));
         if answer != 0 {
-            return Fault { answer, place };
+            return Fault {
+                answer,
+                place: NodeNo(n),
+            };
         }
         n += 1;
     }
