@@ -5,7 +5,7 @@
 --     fill-none, fill-more, fill-up, fill-end   a loop that fills: before it, a store more, and up to the buffer's end
 --     copy-more                        a part of another list: a store more
 --     put-one, put-put, put-cons       a single store; a run put behind a run, and behind a single store
---     part-put                         the front up to a part of what is put
+--     part-put, copied-over            the front up to a part of what is put; the same of a part of another list
 --     put-same, fill-run, fill-kept    what stands already; a run more filled, or found full
 --     zero-more, zero-all              all 0: one element more; then it is filled with 0
 --     block-filled, block-clean, word-cleared, all-cleared    a loop that clears by blocks: a block filled or found clean, a word, the end
@@ -120,6 +120,13 @@ module _ {A : Type 0} (d : List A) (at : ℕ) where
       ∙ ap (take (at + n)) (take-put s m e h)
       ∙ ap (λ (k : ℕ). take (k + n) (take at d ++ s)) (sym front)
       ∙ take-append-add (take at d) s n
+
+  -- m elements of another list are put, of which the first n count: the buffer is this
+  pub copied-over : (l : List A) (from m n : ℕ) (buffer : List A) → n ≤ m → from + m ≤ length l → at + m ≤ length d → buffer ≡ put d at (take m (drop from l)) → (take (at + n) buffer ≡ take at d ++ take n (drop from l)) × (length buffer ≡ length d)
+  copied-over l from m n buffer le in-l in-d e =
+      let s = drop from l in
+      let there : length (take m s) ≡ m = simp (length-take, length-drop) (omega arith) in
+      (ap (take (at + n)) e ∙ part-put (take m s) m n there le in-d ∙ ap (λ (r : List A). take at d ++ r) (take-take n m s le), ap length e ∙ length-put (take m s) m there in-d)
 
   -- ---- what stands already
 

@@ -2,13 +2,10 @@
 -- Assumes nothing.
 use borrow.Author.Needs.{needs}
 use native.Mathlib.Omega.{arith}
-use Prim.Native.Nat.{ℕ, _+_, _-_, _≤_}
-use mathlib.Core.List.{List, _++_}
-use lib.ListN.{length, take, drop, length-take, length-drop}
-use lib.Seq.{take-take}
+use Prim.Native.Nat.{_-_, _≤_}
+use lib.ListN.{length}
 use borrow.Author.Tests.{leb-true}
-use Rattle.buffer.proofs.Put.{take-put, part-put, length-put}
-use mathlib.Core.Path.{_≡_, ap, _∙_}
+use Rattle.buffer.proofs.Put.{copied-over}
 use Rattle.buffer.proofs.copy_over.Statement.{statement}
 use Rattle.buffer.proofs.copy_over.Tie as tie
 
@@ -33,12 +30,7 @@ returns c =
     let a = c .before .before .before .before .before .before .before .before .before .args in
     let in-src : 32 ≤ length (a .src .now) - a .from = leb-true _ _ (c .before .before .before .before .before .if2 .taken) in
     let in-dst : 32 ≤ length (a .dst .now) - a .at = leb-true _ _ (c .before .before .before .before .if3 .taken) in
-    let l = drop (a .from) (a .src .now) in
-    let there : length (take 32 l) ≡ 32 = simp (length-take, length-drop) (omega arith) in
-    let whole = c .before .before .copy-block .ensures in (
-      ap (take (a .at + a .n)) whole ∙ part-put (a .dst .now) (a .at) (take 32 l) 32 (a .n) there (omega arith) (omega arith) ∙ ap (λ (r : List ℕ). take (a .at) (a .dst .now) ++ r) (take-take (a .n) 32 l (omega arith)),
-      ap length whole ∙ length-put (a .dst .now) (a .at) (take 32 l) 32 there (omega arith),
-    )
+    copied-over (a .dst .now) (a .at) (a .src .now) (a .from) 32 (a .n) _ (omega arith) (omega arith) (omega arith) (c .before .before .copy-block .ensures)
 
 copy-bytes-requires : tie.Need-copy-bytes-requires
 copy-bytes-requires c κs = search needs
@@ -49,10 +41,7 @@ same-length-2 c = search needs
 returns-2 : tie.Need-returns-2
 returns-2 c =
     let a = c .before .before .before .before .before .before .before .args in
-    let l = drop (a .from) (a .src .now) in
-    let there : length (take (a .n) l) ≡ a .n = simp (length-take, length-drop) (omega arith) in
-    let run = c .before .before .copy-bytes .ensures in
-    (ap (take (a .at + a .n)) run ∙ take-put (a .dst .now) (a .at) (take (a .n) l) (a .n) there (omega arith), ap length run ∙ length-put (a .dst .now) (a .at) (take (a .n) l) (a .n) there (omega arith))
+    copied-over (a .dst .now) (a .at) (a .src .now) (a .from) (a .n) (a .n) _ (omega arith) (omega arith) (omega arith) (c .before .before .copy-bytes .ensures)
 
 pub copy-over-spec : {M : Type 1} → statement M
 copy-over-spec =
