@@ -14,7 +14,7 @@ ghost use Rattle.build.specs.Outcome.{fits, asked, outcome, made};
 ghost use Rattle.build.specs.Constructors.{has, nestRight};
 use table::Indent;
 use table::NodeNo;
-use table::utf8::below_128;
+use utf8::below_128;
 
 mod composed;
 mod lists;

@@ -10,7 +10,7 @@ use crate::nest_right;
 use table::Column;
 use table::Indent;
 use table::NodeNo;
-use table::utf8::columns_right;
+use table::columns_right;
 
 impl Counts {
     pub fn nil(self, table: &mut [u32], text: &[u8]) -> Made

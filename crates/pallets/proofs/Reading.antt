@@ -19,8 +19,8 @@ use lib.ListN.{length, getD, take, drop, length-drop}
 use lib.Seq.{drop-cons, drop-drop}
 use lib.Dec.{eqb, leb}
 use borrow.Author.Tests.{leb-true, le-leb, lt-leb, lt-ltb, le-ltb, eq-eqb, ne-eqb}
-use Rattle.table.specs.Pick.{pick}
-use Rattle.table.proofs.Tests.{and-true}
+use Rattle.utf8.specs.Pick.{pick}
+use Rattle.utf8.proofs.Tests.{and-true}
 use Rattle.pallets.specs.Numbers.{digit, digits, numberOf, Small}
 use Rattle.pallets.specs.Lines.{indexOf, before, lines, characters, blank, controls}
 use Rattle.pallets.specs.Marks.{openAt}

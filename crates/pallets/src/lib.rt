@@ -12,7 +12,7 @@ use bytes::part_end;
 use numbers::Amount;
 use numbers::number;
 use numbers::tenths;
-use table::utf8::well_formed;
+use utf8::well_formed;
 
 pub mod bytes;
 pub mod input;

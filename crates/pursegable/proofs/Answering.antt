@@ -8,7 +8,7 @@ use native.Mathlib.Omega.{arith}
 use borrow.Author.Tests.{lt-leb, le-leb}
 use lib.Dec.{leb}
 use lib.ListN.{length, set, replicate, length-replicate}
-use Rattle.table.specs.Pick.{pick}
+use Rattle.utf8.specs.Pick.{pick}
 use Rattle.rules.specs.Layout as rules
 use Rattle.rules.specs.Call.{Given, refusal, call, wordsOf, padded}
 use Rattle.sheet.specs.declared.Report.{Report}

@@ -11,7 +11,7 @@ ghost use mathlib.Core.Path.{_≡_};
 ghost use mathlib.Core.List.{[], _∷_};
 ghost use lib.ListN.{length};
 ghost use lib.Dec.{leb};
-ghost use Rattle.table.specs.Pick.{pick};
+ghost use Rattle.utf8.specs.Pick.{pick};
 ghost use Rattle.sheet.specs.Called.{given, defaultWidth, defaultSteps};
 ghost use Rattle.events.specs.Called.{asked};
 ghost use Rattle.pursegable.specs.Exported.{told, Records, Words};

@@ -12,7 +12,7 @@ use mathlib.Core.List.{List, [], _∷_, _++_}
 use lib.ListN.{length, take, drop, replicate, length-take, length-drop, length-replicate}
 use lib.Dec.{eqb}
 use borrow.Author.Tests.{eq-eqb, ne-eqb}
-use Rattle.table.specs.Pick.{pick}
+use Rattle.utf8.specs.Pick.{pick}
 use Rattle.table.specs.Document.{Doc, hardline, annotated, union}
 use Rattle.build.specs.Documents.{appendDoc}
 use Rattle.pallets.specs.Lines.{indexOf, characters}

@@ -16,7 +16,7 @@ use lib.ListN.{length, getD, take, drop, set, length-drop, length-set}
 use lib.Seq.{take-all, take-suc, drop-drop, drop-cons, length-take-le, drop-set-lt, getD-set-same}
 use lib.Dec.{eqb, ltb}
 use borrow.Author.Tests.{eq-eqb, ne-eqb, le-leb, lt-leb, lt-ltb, le-ltb, ltb-true, ltb-false}
-use Rattle.table.specs.Pick.{pick}
+use Rattle.utf8.specs.Pick.{pick}
 use Rattle.pallets.specs.Lines.{goesOn}
 use Rattle.pallets.proofs.Reading.{more, done}
 use Rattle.rows.specs.Words.{blanks, skipped, trimmed, ends, togetherOn, together, wordsOn}

@@ -4,7 +4,7 @@ use mathlib.Core.Path.{_≡_}
 use mathlib.Core.List.{List, [], _∷_, _++_}
 use lib.ListN.{length, take, drop, replicate}
 use lib.Dec.{eqb}
-use Rattle.table.specs.Pick.{pick}
+use Rattle.utf8.specs.Pick.{pick}
 use Rattle.buffer.specs.Run.{put}
 use Rattle.pallets.specs.Lines.{indexOf, characters}
 use Rattle.pallets.specs.declared.Pallet.{Pallet}

@@ -13,7 +13,7 @@ use Rattle.buffer.specs.Run.{zeroed}
 use Rattle.table.specs.Fault.{check}
 use Rattle.table.specs.Unfold.{tree, root}
 use Rattle.table.specs.declared.NodeNo.{NodeNo}
-use Rattle.table.proofs.Tests.{and-true}
+use Rattle.utf8.proofs.Tests.{and-true}
 use Rattle.table.proofs.Accept.{accepted-of}
 use Rattle.table.proofs.Sound.{valid-check}
 use Rattle.rules.specs.Layout as rules

@@ -16,29 +16,15 @@ use mathlib.Core.List.{List, [], _∷_}
 use lib.ListN.{length, take, drop, length-take, length-drop}
 use lib.Dec.{eqb, ltb, leb}
 use borrow.Author.Tests.{ltb-true, leb-true, eqb-true, eqb-false, not-true, not-false, lt-ltb, le-leb, lt-leb, leb-false, eq-eqb, ne-eqb}
-use Rattle.table.specs.Pick.{pick}
+use Rattle.utf8.specs.Pick.{pick}
 use Rattle.table.specs.Kinds.{kindAt}
-use Rattle.table.specs.Utf8.{Range, Start, start, follow, never, owed, wellFormed, ascii}
+use Rattle.utf8.specs.Utf8.{wellFormed, ascii}
 use Rattle.table.specs.Fault.{Fault, fault, none, unusedZero, childrenBelow, nestInRange, columnsRight, faultOf, faultAt, orElse, firstFault, sizesRight, check}
 use Rattle.table.specs.Accepted.{NodeRight, Accepted}
-use Rattle.table.proofs.Tests.{and-true, true-and, or-true, true-or, passed, passes}
+use Rattle.utf8.proofs.Tests.{and-true, true-and, or-true, true-or, passed, passes}
+use Rattle.utf8.proofs.Octets.{ascii-well}
 
 -- ---- a Text's bytes and columns
-
--- an octet that starts a character owes what follows it
-pub owed-start : (b : ℕ) (bs : List ℕ) (rs : List Range) → start b ≡ follow rs → owed [] (b ∷ bs) ≡ owed rs bs
-unfolding owed
-owed-start b bs rs e = ap (λ (s : Start). elim s as (λ x. Bool) [ follow qs ↦ owed qs bs | never ↦ false ]) e
-
--- bytes below 128 are well-formed
-pub ascii-well : (bs : List ℕ) → ascii bs ≡ true → wellFormed bs ≡ true
-unfolding ascii wellFormed
-ascii-well [] e = unfold owed in refl
-ascii-well (b ∷ bs) e =
-    let p = and-true (ltb b 128) (ascii bs) e in
-    let h : b ≤ 127 = omega (arith, ltb-true b 128 (p .0)) in
-    let s : start b ≡ follow [] = rw (le-leb 0 b (omega arith), le-leb b 127 h) in
-    owed-start b bs [] s ∙ ascii-well bs (p .1)
 
 -- a Text's range has its length
 pub part-length : (text : List ℕ) (a b : ℕ) → a + b ≤ length text → length (take b (drop a text)) ≡ b

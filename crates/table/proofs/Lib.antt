@@ -1,8 +1,6 @@
 -- The laws of the node table, with no code in sight.
-pub mod Tests
 pub mod KindRule
 pub mod Accept
-pub mod Octets
 pub mod Answers
 pub mod Sound
 pub mod Unfolded

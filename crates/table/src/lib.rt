@@ -7,14 +7,12 @@ ghost use mathlib.Core.List.{List};
 ghost use Prim.Native.Nat.{ℕ, _+_, _*_, _/_, _≤_, _<_};
 ghost use lib.ListN.{length};
 ghost use Rattle.table.specs.Kinds.{kinds, kindAt};
-ghost use Rattle.table.specs.Utf8.{ascii};
+ghost use Rattle.utf8.specs.Utf8.{ascii};
 ghost use Rattle.table.specs.Parts.{Tells, textFault};
-ghost use Rattle.table.specs.Fault.{unusedZero, childrenBelow, nestInRange, faultOf, faultAt, firstFault, sizesRight, check};
+ghost use Rattle.table.specs.Fault.{unusedZero, childrenBelow, nestInRange, columnsRight, faultOf, faultAt, firstFault, sizesRight, check};
 use utf8::below_128;
-use utf8::columns_right;
 use utf8::plainly_below_128;
-
-pub mod utf8;
+use utf8::well_formed;
 
 // How many children a kind has, and how many words it uses. Children and used words come first among a, b, c.
 pub struct KindInfo {
@@ -150,6 +148,20 @@ fn nest_in_range(k: u32, b: u32, c: u32) -> bool
         return true;
     }
     (b <= 1000) & (c <= 1)
+}
+
+// Whether the columns of a Text with these bytes are right, and the bytes well-formed.
+pub fn columns_right(bytes: &[u8], c: Column) -> bool
+    ensures { λ r. ⌜ r ≡ columnsRight (now (bytes .entry)) (c .0) ⌝ }
+{
+    let columns = c.0 as usize;
+    if below_128(bytes) {
+        return columns == bytes.len();
+    }
+    if well_formed(bytes) {
+        return columns <= bytes.len();
+    }
+    false
 }
 
 // A Text's range, then its bytes and columns.

@@ -7,7 +7,7 @@ use borrow.Author.Tests.{eq-eqb, ne-eqb, le-leb, lt-leb}
 use lib.ListN.{length, take, drop, length-take}
 use lib.Seq.{take-take}
 use Rattle.table.specs.Node.{word}
-use Rattle.table.specs.Utf8.{ascii}
+use Rattle.utf8.specs.Utf8.{ascii}
 use Rattle.table.proofs.Unfolded.{part-same}
 use Rattle.build.specs.Sheet.{counted}
 use Rattle.build.specs.Parts.{stays}

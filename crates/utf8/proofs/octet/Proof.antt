@@ -1,12 +1,12 @@
--- `table::utf8::octet` meets its contract: a first octet, one outside what is owed, or one in it. Assumes nothing.
+-- `utf8::octet` meets its contract: a first octet, one outside what is owed, or one in it. Assumes nothing.
 use borrow.Author.Needs.{needs}
 use mathlib.Core.Path.{_≡_}
 use mathlib.Core.Bool.{true, false}
 use borrow.Author.Tests.{le-leb, lt-leb}
-use Rattle.table.specs.Utf8.{to, within}
-use Rattle.table.proofs.Octets.{owed-first, owed-outside, owed-next}
-use Rattle.table.proofs.utf8.octet.Statement.{statement}
-use Rattle.table.proofs.utf8.octet.Tie as tie
+use Rattle.utf8.specs.Utf8.{to, within}
+use Rattle.utf8.proofs.Octets.{owed-first, owed-outside, owed-next}
+use Rattle.utf8.proofs.octet.Statement.{statement}
+use Rattle.utf8.proofs.octet.Tie as tie
 
 start-of-requires : tie.Need-start-of-requires
 start-of-requires c κs = search needs

@@ -1,4 +1,5 @@
 -- The laws of octets that the readers of text bytes lean on.
+--     owed-start, ascii-well           an octet that starts a character; bytes below 128 are well-formed
 --     ascii-more, ascii-part, ascii-short    all below 128: one octet more; a part of the text; the front of a part
 --     start-same                       first octets between two bounds owe the same
 --     owed-first, owed-outside, owed-next, owed-end, owed-read, owed-low   one octet of what is owed; the end; an octet read; one below 128 read
@@ -13,13 +14,29 @@ use lib.ListN.{length, getD, take, drop, replicate}
 use lib.Seq.{take-suc, take-take, drop-cons}
 use lib.Dec.{eqb, ltb, leb, eqb·suc-zero}
 use borrow.Author.Tests.{ltb-true, leb-true, le-leb, lt-leb}
-use Rattle.table.specs.Utf8.{Range, to, within, tail, Start, start, follow, never, owed, ascii}
-use Rattle.table.specs.Parts.{owing, ranges, starts, goesOn, GoesOn}
-use Rattle.table.specs.declared.utf8.Owing.{Owing}
-use Rattle.table.specs.declared.utf8.Next.{Next}
-use Rattle.table.specs.declared.utf8.Next.the-variants.{Owes, Wrong}
-use Rattle.table.proofs.Tests.{and-end, and-true, true-and, or-true, all, all-at}
-use Rattle.table.proofs.Accept.{owed-start}
+use Rattle.utf8.specs.Utf8.{Range, to, within, tail, Start, start, follow, never, owed, wellFormed, ascii}
+use Rattle.utf8.specs.Reader.{owing, ranges, starts, goesOn, GoesOn}
+use Rattle.utf8.specs.declared.Owing.{Owing}
+use Rattle.utf8.specs.declared.Next.{Next}
+use Rattle.utf8.specs.declared.Next.the-variants.{Owes, Wrong}
+use Rattle.utf8.proofs.Tests.{and-end, and-true, true-and, or-true, all, all-at}
+
+-- ---- characters
+
+-- an octet that starts a character owes what follows it
+pub owed-start : (b : ℕ) (bs : List ℕ) (rs : List Range) → start b ≡ follow rs → owed [] (b ∷ bs) ≡ owed rs bs
+unfolding owed
+owed-start b bs rs e = ap (λ (s : Start). elim s as (λ x. Bool) [ follow qs ↦ owed qs bs | never ↦ false ]) e
+
+-- bytes below 128 are well-formed
+pub ascii-well : (bs : List ℕ) → ascii bs ≡ true → wellFormed bs ≡ true
+unfolding ascii wellFormed
+ascii-well [] e = unfold owed in refl
+ascii-well (b ∷ bs) e =
+    let p = and-true (ltb b 128) (ascii bs) e in
+    let h : b ≤ 127 = omega (arith, ltb-true b 128 (p .0)) in
+    let s : start b ≡ follow [] = rw (le-leb 0 b (omega arith), le-leb b 127 h) in
+    owed-start b bs [] s ∙ ascii-well bs (p .1)
 
 -- ---- all below 128
 

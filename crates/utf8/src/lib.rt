@@ -1,12 +1,11 @@
-// Text bytes: whether all are below 128, whether they are well-formed UTF-8 by RFC 3629, and whether a Text's columns are right.
+// Text bytes: whether all are below 128, and whether they are well-formed UTF-8 by RFC 3629. No public function but `plainly_below_128`, a
+// shortcut of validation, has a `requires`.
 ghost use mathlib.Core.Path.{_≡_};
 ghost use mathlib.Core.Bool.{true};
 ghost use Prim.Native.Nat.{_+_, _≤_};
 ghost use lib.ListN.{length, take, drop};
-ghost use Rattle.table.specs.Utf8.{wellFormed, ascii, start};
-ghost use Rattle.table.specs.Parts.{starts, GoesOn};
-ghost use Rattle.table.specs.Fault.{columnsRight};
-use super::Column;
+ghost use Rattle.utf8.specs.Utf8.{wellFormed, ascii, start};
+ghost use Rattle.utf8.specs.Reader.{starts, GoesOn};
 
 // Whether all bytes are below 128. It reads to the end, so that it goes by whole blocks.
 pub fn below_128(bytes: &[u8]) -> bool
@@ -167,18 +166,4 @@ pub fn well_formed(bytes: &[u8]) -> bool
         i += 1;
     }
     o.count == 0
-}
-
-// Whether the columns of a Text with these bytes are right, and the bytes well-formed.
-pub fn columns_right(bytes: &[u8], c: Column) -> bool
-    ensures { λ r. ⌜ r ≡ columnsRight (now (bytes .entry)) (c .0) ⌝ }
-{
-    let columns = c.0 as usize;
-    if below_128(bytes) {
-        return columns == bytes.len();
-    }
-    if well_formed(bytes) {
-        return columns <= bytes.len();
-    }
-    false
 }

@@ -1,4 +1,4 @@
--- `table::utf8::plainly_below_128` meets its contract: a part of the whole, or the front of a block. Assumes nothing.
+-- `utf8::plainly_below_128` meets its contract: a part of the whole, or the front of a block. Assumes nothing.
 use borrow.Author.Needs.{needs}
 use native.Mathlib.Omega.{arith}
 use mathlib.Core.Path.{_≡_, sym, ap, _∙_}
@@ -6,10 +6,10 @@ use mathlib.Core.Bool.{false≢true}
 use Prim.Native.Nat.{ℕ, _+_, _-_, _≤_}
 use lib.ListN.{length, take, drop}
 use borrow.Author.Tests.{leb-true}
-use Rattle.table.specs.Utf8.{ascii}
-use Rattle.table.proofs.Octets.{ascii-part, ascii-short}
-use Rattle.table.proofs.utf8.plainly_below_128.Statement.{statement}
-use Rattle.table.proofs.utf8.plainly_below_128.Tie as tie
+use Rattle.utf8.specs.Utf8.{ascii}
+use Rattle.utf8.proofs.Octets.{ascii-part, ascii-short}
+use Rattle.utf8.proofs.plainly_below_128.Statement.{statement}
+use Rattle.utf8.proofs.plainly_below_128.Tie as tie
 
 returns : tie.Need-returns
 returns c =

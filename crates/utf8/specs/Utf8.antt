@@ -3,7 +3,7 @@ use Prim.Native.Nat.{ℕ}
 use mathlib.Core.Bool.{Bool, true, false, _&&_}
 use mathlib.Core.List.{List, [], _∷_}
 use lib.Dec.{leb, ltb}
-use Rattle.table.specs.Pick.{pick}
+use Rattle.utf8.specs.Pick.{pick}
 
 -- a range of octets, both ends in it
 pub record Range : Type 0 where

@@ -1,9 +1,9 @@
--- `table::utf8::start_of` meets its contract: each answer is the one for every octet between two bounds. Assumes nothing.
+-- `utf8::start_of` meets its contract: each answer is the one for every octet between two bounds. Assumes nothing.
 use native.Mathlib.Omega.{arith}
 use mathlib.Core.Path.{refl}
-use Rattle.table.proofs.Octets.{start-same}
-use Rattle.table.proofs.utf8.start_of.Statement.{statement}
-use Rattle.table.proofs.utf8.start_of.Tie as tie
+use Rattle.utf8.proofs.Octets.{start-same}
+use Rattle.utf8.proofs.start_of.Statement.{statement}
+use Rattle.utf8.proofs.start_of.Tie as tie
 
 returns : tie.Need-returns
 returns c = start-same (c .before .args .b) 0x00 0x7F refl (omega arith) (omega arith)

@@ -1,4 +1,4 @@
--- `table::utf8::below_128` meets its contract: so far `low` says that the first i bytes are below 128. Assumes nothing.
+-- `utf8::below_128` meets its contract: so far `low` says that the first i bytes are below 128. Assumes nothing.
 use borrow.Author.Needs.{needs}
 use native.Mathlib.Omega.{arith}
 use mathlib.Core.Path.{_≡_, refl, ap, _∙_}
@@ -7,10 +7,10 @@ use Prim.Native.Nat.{_-_, _≤_}
 use lib.ListN.{length, take, getD}
 use lib.Seq.{take-length}
 use lib.Dec.{ltb}
-use Rattle.table.specs.Utf8.{ascii}
-use Rattle.table.proofs.Octets.{ascii-more}
-use Rattle.table.proofs.utf8.below_128.Statement.{statement}
-use Rattle.table.proofs.utf8.below_128.Tie as tie
+use Rattle.utf8.specs.Utf8.{ascii}
+use Rattle.utf8.proofs.Octets.{ascii-more}
+use Rattle.utf8.proofs.below_128.Statement.{statement}
+use Rattle.utf8.proofs.below_128.Tie as tie
 
 abbrev Inv-loop : tie.InvT-loop
 Inv-loop bytes low₀ i₀ low i = (i ≤ length bytes) × (low ≡ ascii (take i bytes))

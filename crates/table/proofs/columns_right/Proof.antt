@@ -1,13 +1,13 @@
--- `table::utf8::columns_right` meets its contract: by what its two tests say of the bytes. Assumes nothing.
+-- `table::columns_right` meets its contract: by what its two tests say of the bytes. Assumes nothing.
 use borrow.Author.Needs.{needs}
 use mathlib.Core.Path.{_≡_, sym, ap, _∙_}
 use mathlib.Core.Bool.{Bool, true, false, _&&_}
 use lib.ListN.{length}
 use lib.Dec.{leb}
-use Rattle.table.specs.Utf8.{wellFormed}
+use Rattle.utf8.specs.Utf8.{wellFormed}
 use Rattle.table.proofs.Answers.{columns-plain, columns-wide}
-use Rattle.table.proofs.utf8.columns_right.Statement.{statement}
-use Rattle.table.proofs.utf8.columns_right.Tie as tie
+use Rattle.table.proofs.columns_right.Statement.{statement}
+use Rattle.table.proofs.columns_right.Tie as tie
 
 cast-columns : tie.Need-cast-columns
 cast-columns c = search needs

@@ -1,4 +1,4 @@
--- `table::utf8::well_formed` meets its contract: whether what is owed follows from here is whether the bytes are well-formed. Assumes nothing.
+-- `utf8::well_formed` meets its contract: whether what is owed follows from here is whether the bytes are well-formed. Assumes nothing.
 use borrow.Author.Needs.{needs}
 use native.Mathlib.Omega.{arith}
 use mathlib.Core.Path.{_≡_, refl, sym, ap, _∙_}
@@ -7,12 +7,12 @@ use Prim.Native.Nat.{_+_, _-_, _≤_}
 use lib.ListN.{length, drop}
 use lib.Seq.{drop-length}
 use borrow.Author.Tests.{ltb-true}
-use Rattle.table.specs.Utf8.{wellFormed, owed}
-use Rattle.table.specs.Parts.{ranges, goesOn}
-use Rattle.table.specs.declared.utf8.Next.{Next}
-use Rattle.table.proofs.Octets.{owed-read, owed-low, owed-end}
-use Rattle.table.proofs.utf8.well_formed.Statement.{statement}
-use Rattle.table.proofs.utf8.well_formed.Tie as tie
+use Rattle.utf8.specs.Utf8.{wellFormed, owed}
+use Rattle.utf8.specs.Reader.{ranges, goesOn}
+use Rattle.utf8.specs.declared.Next.{Next}
+use Rattle.utf8.proofs.Octets.{owed-read, owed-low, owed-end}
+use Rattle.utf8.proofs.well_formed.Statement.{statement}
+use Rattle.utf8.proofs.well_formed.Tie as tie
 
 abbrev Inv-loop : tie.InvT-loop
 Inv-loop bytes o₀ i₀ o i = (i ≤ length bytes) × (owed (ranges o) (drop i bytes) ≡ wellFormed bytes)

@@ -1,0 +1,3 @@
+-- The laws of text bytes, with no code in sight.
+pub mod Tests
+pub mod Octets
