@@ -1,4 +1,3 @@
 -- The laws of reading, with no code in sight.
 pub mod Reading
 pub mod Saying
-pub mod Standing

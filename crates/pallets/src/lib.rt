@@ -1,6 +1,5 @@
 // A chest's test results: one pallet a line, `note;force;pluck point;remark`. Here: what a line says. bytes.rt: the bytes of a line;
-// numbers.rt: numbers; input.rt: which line is at fault first; tolerance.rt: what is within tolerance; marks.rt: where a mark is open on
-// the printed sheet. No public function has a `requires`; each says its whole answer by a definition of specs/.
+// numbers.rt: numbers; input.rt: which line is at fault first. No public function has a `requires`; each says its whole answer by a definition of specs/.
 ghost use mathlib.Core.Path.{_≡_};
 ghost use Prim.Native.Nat.{_+_, _<_, _^_};
 ghost use lib.ListN.{length};
@@ -16,9 +15,7 @@ use utf8::well_formed;
 
 pub mod bytes;
 pub mod input;
-pub mod marks;
 mod numbers;
-pub mod tolerance;
 
 // The longest line in bytes, and the longest note in columns.
 const LONGEST_LINE: usize = 200;

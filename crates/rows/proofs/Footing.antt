@@ -12,9 +12,9 @@ use borrow.Author.Tests.{eq-eqb, ne-eqb}
 use Rattle.table.specs.Document.{nil, hardline}
 use Rattle.build.specs.Documents.{concatDoc, intersperseDoc}
 use Rattle.pallets.specs.Lines.{lines}
-use Rattle.pallets.specs.Standing.{rowCount, outNotes, Names}
-use Rattle.pallets.specs.declared.tolerance.Next.{Next}
-use Rattle.pallets.specs.declared.tolerance.Next.the-variants.{NoMore}
+use Rattle.tolerance.specs.Standing.{rowCount, outNotes, Names}
+use Rattle.tolerance.specs.declared.Next.{Next}
+use Rattle.tolerance.specs.declared.Next.the-variants.{NoMore}
 use Rattle.pallets.proofs.Reading.{done}
 use Rattle.rows.specs.Bytes.{Placed, digits}
 use Rattle.rows.specs.Documents.{leafDoc, oneText, allText, withinText, withinDoc, commaDoc, headedDoc, toldDoc, footerDoc}

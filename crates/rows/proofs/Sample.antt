@@ -10,9 +10,9 @@ use Rattle.build.specs.Documents.{appendDoc, groupDoc, nestDoc, textDoc, joined
 use Rattle.block.specs.Documents.{bareDoc, headDoc, tailDoc, coreDoc, wrapsDoc, alternativeDoc, unionsDoc, blockDoc}
 use Rattle.pallets.specs.Lines.{indexOf, lines, bodyEnd, characters, blank, controls}
 use Rattle.pallets.specs.Numbers.{digits, numberOf, tenthsAdd, tenthsOf}
-use Rattle.pallets.specs.Tolerance.{labelOf}
+use Rattle.tolerance.specs.Tolerance.{labelOf}
 use Rattle.pallets.specs.Pallets.{cutsAt, fieldsOf, measured, palletOf, palletAt, said, parsed}
-use Rattle.pallets.specs.Standing.{standing, standingOf, rowCount, outNotes}
+use Rattle.tolerance.specs.Standing.{standing, standingOf, rowCount, outNotes}
 use Rattle.rows.specs.Bytes.{right, fields}
 use Rattle.rows.specs.Words.{blanks, trimmed, togetherOn, wordsOn}
 use Rattle.rows.specs.Documents.{filledDoc, besideDoc, lowerDoc, belowDoc, endedDoc, markedDoc, rowDoc, saysDoc, partDoc, headedDoc, toldDoc, footerDoc, linesDoc, sheetDoc}

@@ -10,8 +10,8 @@ use Rattle.build.specs.Documents.{appendDoc, nestDoc, textDoc, lineDoc, softlin
 use Rattle.block.specs.Documents.{blockDoc}
 use Rattle.pallets.specs.Lines.{lines, bodyEnd, characters}
 use Rattle.pallets.specs.Pallets.{parsed}
-use Rattle.pallets.specs.Tolerance.{labelOf}
-use Rattle.pallets.specs.Standing.{rowCount, outNotes}
+use Rattle.tolerance.specs.Tolerance.{labelOf}
+use Rattle.tolerance.specs.Standing.{rowCount, outNotes}
 use Rattle.pallets.specs.declared.Pallet.{Pallet}
 use Rattle.pallets.specs.declared.Line.{Line}
 use Rattle.pallets.specs.declared.Line.the-variants.{Empty, Heading, Row, Bad}

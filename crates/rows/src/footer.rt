@@ -7,7 +7,7 @@ ghost use mathlib.Core.List.{[], map};
 ghost use Rattle.table.specs.Document.{Doc, nil};
 ghost use Rattle.build.specs.Documents.{softlineDoc, intersperseDoc};
 ghost use Rattle.pallets.specs.Lines.{lines};
-ghost use Rattle.pallets.specs.Standing.{outNotes};
+ghost use Rattle.tolerance.specs.Standing.{outNotes};
 ghost use Rattle.rows.specs.Bytes.{digitsOn};
 ghost use Rattle.rows.specs.Documents.{leafDoc, withinDoc, commaDoc, headedDoc, toldDoc, footerDoc};
 ghost use Rattle.rows.specs.Build.{Is, Shares, Gives};
@@ -21,11 +21,11 @@ use block::Block;
 use build::Counts;
 use build::Made;
 use pallets::bytes::front;
-use pallets::tolerance::Next;
-use pallets::tolerance::count;
-use pallets::tolerance::next_out;
 use table::Indent;
 use table::NodeNo;
+use tolerance::Next;
+use tolerance::count;
+use tolerance::next_out;
 
 // Puts a number's digits at the end; gives where the first of them stands.
 fn put_digits(out: &mut [u8], n: usize) -> usize

@@ -29,9 +29,9 @@ use pallets::Pallet;
 use pallets::bytes::columns;
 use pallets::bytes::front;
 use pallets::bytes::part_end;
-use pallets::tolerance::label;
 use table::Indent;
 use table::NodeNo;
+use tolerance::label;
 
 // The columns of a row's fields: the note from the left, force and pluck point to the right.
 const NOTE: usize = 6;

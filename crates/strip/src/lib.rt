@@ -96,7 +96,7 @@ fn print_all(fd: i32, out: &[u8], events: &[u32]) -> bool {
     let mut at = 0;
     while at < out.len() {
         let end = pallets::bytes::part_end(out, at, 10);
-        if !print_line(fd, &out[at..end], pallets::marks::marked(events, at)) {
+        if !print_line(fd, &out[at..end], marks::marked(events, at)) {
             return false;
         }
         if out.len() <= end {

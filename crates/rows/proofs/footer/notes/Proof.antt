@@ -9,8 +9,8 @@ use Rattle.table.specs.Document.{nil}
 use Rattle.build.specs.Documents.{intersperseDoc}
 use Rattle.pallets.specs.Lines.{lines}
 use Rattle.pallets.specs.Pallets.{between}
-use Rattle.pallets.specs.Standing.{outNotes}
-use Rattle.pallets.proofs.Standing.{first-of}
+use Rattle.tolerance.specs.Standing.{outNotes}
+use Rattle.tolerance.proofs.Walking.{first-of}
 use Rattle.rows.specs.Documents.{leafDoc, commaDoc}
 use Rattle.rows.specs.Build.{Is}
 use Rattle.rows.proofs.Chain.{refused}

@@ -1,7 +1,7 @@
 -- `rows::footer::said` meets its contract. Assumes nothing.
 use mathlib.Core.Path.{refl}
 use Rattle.pallets.specs.Lines.{lines}
-use Rattle.pallets.specs.Standing.{outNotes}
+use Rattle.tolerance.specs.Standing.{outNotes}
 use Rattle.rows.proofs.Chain.{gives}
 use Rattle.rows.proofs.Footing.{told-none, told-some}
 use Rattle.rows.proofs.footer.said.Statement.{statement}

@@ -1,6 +1,6 @@
 // Where a mark is open on the printed sheet.
 ghost use mathlib.Core.Path.{_≡_};
-ghost use Rattle.pallets.specs.Marks.{markedAt};
+ghost use Rattle.marks.specs.Marks.{markedAt};
 
 // Whether a mark is open at an offset of the output: events are three words each, an offset, 1 for an opening or 0, and a label, in order.
 pub fn marked(events: &[u32], at: usize) -> bool

@@ -1,13 +1,14 @@
 // What is within tolerance: a pallet's label, how a line stands, and of a whole input how many rows it has and which are out.
+// No public function has a `requires`; each says its whole answer by a definition of specs/.
 ghost use mathlib.Core.Path.{_≡_};
 ghost use lib.ListN.{length, drop};
 ghost use Rattle.pallets.specs.Lines.{lines};
-ghost use Rattle.pallets.specs.Tolerance.{labelOf};
-ghost use Rattle.pallets.specs.Standing.{standing, standingOf, rowCount, outNotes, nextOut, Names};
-use crate::Line;
-use crate::bytes::body_end;
-use crate::bytes::part_end;
-use crate::parse;
+ghost use Rattle.tolerance.specs.Tolerance.{labelOf};
+ghost use Rattle.tolerance.specs.Standing.{standing, standingOf, rowCount, outNotes, nextOut, Names};
+use pallets::Line;
+use pallets::bytes::body_end;
+use pallets::bytes::part_end;
+use pallets::parse;
 
 // Tolerances: force in grams, pluck point in tenths of a millimetre, both ends within.
 const FORCE_LOW: u32 = 90;

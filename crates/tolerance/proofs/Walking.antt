@@ -14,19 +14,19 @@ use mathlib.Core.List.{List, [], _∷_}
 use lib.ListN.{length, take, drop, length-drop}
 use lib.Seq.{take-take, length-take-le}
 use borrow.Author.Tests.{eq-eqb, ne-eqb}
 use Rattle.pallets.specs.Lines.{indexOf, lines}
 use Rattle.pallets.specs.Pallets.{between}
-use Rattle.pallets.specs.Tolerance.{labelOf}
-use Rattle.pallets.specs.Standing.{standing, standingOf, counted, rowCount, named, outNotes, foundAt, nextOut, First, Names}
+use Rattle.tolerance.specs.Tolerance.{labelOf}
+use Rattle.tolerance.specs.Standing.{standing, standingOf, counted, rowCount, named, outNotes, foundAt, nextOut, First, Names}
 use Rattle.pallets.specs.declared.Pallet.{Pallet}
 use Rattle.pallets.specs.declared.Line.{Line}
 use Rattle.pallets.specs.declared.Line.the-variants.{Row}
-use Rattle.pallets.specs.declared.tolerance.Standing.{Standing}
-use Rattle.pallets.specs.declared.tolerance.Standing.the-variants.{NoRow, Within, Out}
-use Rattle.pallets.specs.declared.tolerance.Next.{Next}
-use Rattle.pallets.specs.declared.tolerance.Next.the-variants.{Found, NoMore}
+use Rattle.tolerance.specs.declared.Standing.{Standing}
+use Rattle.tolerance.specs.declared.Standing.the-variants.{NoRow, Within, Out}
+use Rattle.tolerance.specs.declared.Next.{Next}
+use Rattle.tolerance.specs.declared.Next.the-variants.{Found, NoMore}
 use Rattle.pallets.proofs.Reading.{done, line-first}
 use Rattle.pallets.proofs.Saying.{index-within, part-within}
 
 -- a row, by its label
 module _ (l : Line) (p : Pallet) (e : l ≡ Row p) (k : ℕ) (f : k ≡ labelOf (p .grams) (p .tenths)) where

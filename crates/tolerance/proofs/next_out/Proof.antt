@@ -1,13 +1,13 @@
--- `pallets::tolerance::next_out` meets its contract: what is found from here on is what is found from the start. Assumes nothing.
+-- `tolerance::next_out` meets its contract: what is found from here on is what is found from the start. Assumes nothing.
 use borrow.Author.Needs.{needs}
 use native.Mathlib.Omega.{arith}
 use mathlib.Core.Path.{sym, _∙_}
 use Prim.Native.Nat.{_-_}
 use lib.ListN.{length}
 use Rattle.pallets.proofs.Saying.{part-within}
-use Rattle.pallets.proofs.Standing.{Passed, none-passed, passed-none, passed-within, note-within, found, found-none}
-use Rattle.pallets.proofs.tolerance.next_out.Statement.{statement}
-use Rattle.pallets.proofs.tolerance.next_out.Tie as tie
+use Rattle.tolerance.proofs.Walking.{Passed, none-passed, passed-none, passed-within, note-within, found, found-none}
+use Rattle.tolerance.proofs.next_out.Statement.{statement}
+use Rattle.tolerance.proofs.next_out.Tie as tie
 
 abbrev Inv-loop : tie.InvT-loop
 Inv-loop input from at₀ at = Passed input from at

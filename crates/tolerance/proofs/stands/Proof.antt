@@ -1,10 +1,10 @@
--- `pallets::tolerance::stands` meets its contract: by what the line says, and a row by its label. Assumes nothing.
+-- `tolerance::stands` meets its contract: by what the line says, and a row by its label. Assumes nothing.
 use borrow.Author.Needs.{needs}
 use mathlib.Core.Path.{sym, ap}
-use Rattle.pallets.specs.Standing.{standing}
-use Rattle.pallets.proofs.Standing.{row-within, row-out}
-use Rattle.pallets.proofs.tolerance.stands.Statement.{statement}
-use Rattle.pallets.proofs.tolerance.stands.Tie as tie
+use Rattle.tolerance.specs.Standing.{standing}
+use Rattle.tolerance.proofs.Walking.{row-within, row-out}
+use Rattle.tolerance.proofs.stands.Statement.{statement}
+use Rattle.tolerance.proofs.stands.Tie as tie
 
 enum-told : tie.Need-enum-told
 enum-told c = search needs

@@ -1,7 +1,7 @@
--- `pallets::tolerance::label` meets its contract: by the two tests. Assumes nothing.
-use Rattle.pallets.specs.Tolerance.{labelOf}
-use Rattle.pallets.proofs.tolerance.label.Statement.{statement}
-use Rattle.pallets.proofs.tolerance.label.Tie as tie
+-- `tolerance::label` meets its contract: by the two tests. Assumes nothing.
+use Rattle.tolerance.specs.Tolerance.{labelOf}
+use Rattle.tolerance.proofs.label.Statement.{statement}
+use Rattle.tolerance.proofs.label.Tie as tie
 
 returns : tie.Need-returns
 unfolding labelOf

@@ -1,15 +1,15 @@
--- `pallets::tolerance::line_stands` meets its contract: by what the line says without its carriage return. Assumes nothing.
+-- `tolerance::line_stands` meets its contract: by what the line says without its carriage return. Assumes nothing.
 use borrow.Author.Needs.{needs}
 use native.Mathlib.Omega.{arith}
 use mathlib.Core.Path.{sym, ap, _∙_}
 use Prim.Native.Nat.{ℕ}
 use lib.ListN.{take}
 use lib.Seq.{length-take-le}
 use Rattle.pallets.specs.Pallets.{parsed}
-use Rattle.pallets.specs.Standing.{standing, standingOf}
+use Rattle.tolerance.specs.Standing.{standing, standingOf}
 use Rattle.pallets.proofs.Saying.{body-within}
-use Rattle.pallets.proofs.tolerance.line_stands.Statement.{statement}
-use Rattle.pallets.proofs.tolerance.line_stands.Tie as tie
+use Rattle.tolerance.proofs.line_stands.Statement.{statement}
+use Rattle.tolerance.proofs.line_stands.Tie as tie
 
 body-end-requires : tie.Need-body-end-requires
 body-end-requires c κs = search needs

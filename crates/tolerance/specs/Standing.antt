@@ -5,15 +5,15 @@ use mathlib.Core.List.{List, [], _∷_}
 use lib.ListN.{length, take, drop}
 use lib.Dec.{eqb}
 use Rattle.utf8.specs.Pick.{pick}
 use Rattle.pallets.specs.Lines.{indexOf, bodyEnd, lines}
 use Rattle.pallets.specs.Pallets.{between, parsed}
-use Rattle.pallets.specs.Tolerance.{labelOf}
+use Rattle.tolerance.specs.Tolerance.{labelOf}
 use Rattle.pallets.specs.declared.Line.{Line}
 use Rattle.pallets.specs.declared.Line.the-variants.{Empty, Heading, Row, Bad}
-use Rattle.pallets.specs.declared.tolerance.Standing.{Standing}
-use Rattle.pallets.specs.declared.tolerance.Standing.the-variants.{NoRow, Within, Out}
-use Rattle.pallets.specs.declared.tolerance.Next.{Next}
-use Rattle.pallets.specs.declared.tolerance.Next.the-variants.{Found, NoMore}
+use Rattle.tolerance.specs.declared.Standing.{Standing}
+use Rattle.tolerance.specs.declared.Standing.the-variants.{NoRow, Within, Out}
+use Rattle.tolerance.specs.declared.Next.{Next}
+use Rattle.tolerance.specs.declared.Next.the-variants.{Found, NoMore}
 
 -- a row is out of tolerance if it has a mark
 unfoldable pub standing : Line → Standing

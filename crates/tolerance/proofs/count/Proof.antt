@@ -1,13 +1,13 @@
--- `pallets::tolerance::count` meets its contract: rows and notes so far, with those of the lines to come, are all. Assumes nothing.
+-- `tolerance::count` meets its contract: rows and notes so far, with those of the lines to come, are all. Assumes nothing.
 use borrow.Author.Needs.{needs}
 use native.Mathlib.Omega.{arith}
 use mathlib.Core.Path.{sym, _∙_}
 use Prim.Native.Nat.{_-_, _≤_}
 use lib.ListN.{length}
 use Rattle.pallets.proofs.Saying.{part-within}
-use Rattle.pallets.proofs.Standing.{Counted, none-counted, counted-none, counted-within, counted-out, counted-all}
-use Rattle.pallets.proofs.tolerance.count.Statement.{statement}
-use Rattle.pallets.proofs.tolerance.count.Tie as tie
+use Rattle.tolerance.proofs.Walking.{Counted, none-counted, counted-none, counted-within, counted-out, counted-all}
+use Rattle.tolerance.proofs.count.Statement.{statement}
+use Rattle.tolerance.proofs.count.Tie as tie
 
 abbrev Inv-loop : tie.InvT-loop
 Inv-loop input rows₀ out₀ at₀ rows out at = (rows ≤ at) × (out ≤ at) × Counted input rows out at

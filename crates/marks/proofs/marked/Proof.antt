@@ -1,14 +1,14 @@
--- `pallets::marks::marked` meets its contract: the marks open after what is left of the events are those after all of them. Assumes nothing.
+-- `marks::marked` meets its contract: the marks open after what is left of the events are those after all of them. Assumes nothing.
 use borrow.Author.Needs.{needs}
 use native.Mathlib.Omega.{arith}
 use mathlib.Core.Path.{_≡_, refl, sym, ap, _∙_}
 use Prim.Native.Nat.{ℕ, _+_, _-_, _≤_}
 use lib.ListN.{length, drop}
-use Rattle.pallets.specs.Marks.{openAt, markedAt}
-use Rattle.pallets.proofs.Reading.{past, opens, closes, no-mark}
+use Rattle.marks.specs.Marks.{openAt, markedAt}
+use Rattle.marks.proofs.Opening.{past, opens, closes, no-mark}
 use lib.Dec.{ltb}
-use Rattle.pallets.proofs.marks.marked.Statement.{statement}
-use Rattle.pallets.proofs.marks.marked.Tie as tie
+use Rattle.marks.proofs.marked.Statement.{statement}
+use Rattle.marks.proofs.marked.Tie as tie
 
 abbrev Inv-loop : tie.InvT-loop
 Inv-loop events at open₀ i₀ «open» i = (i ≤ length events) × («open» ≤ i) × (openAt «open» (drop i events) at ≡ openAt 0 events at)

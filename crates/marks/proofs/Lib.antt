@@ -1,0 +1,2 @@
+-- The laws of marks, with no code in sight.
+pub mod Opening

@@ -1,0 +1,2 @@
+-- Where a mark is open.
+pub mod Marks

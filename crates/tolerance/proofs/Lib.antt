@@ -1,0 +1,2 @@
+-- The laws of walking an input, with no code in sight.
+pub mod Walking
