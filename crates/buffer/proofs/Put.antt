@@ -1,4 +1,5 @@
 -- The laws of `put`, over any element. n is the length of what is put, as its user has it.
+--     take-replicate                   the front of a run of one element
 --     put-none, put-more               nothing put; one more element stored behind what is put
 --     length-put                       the length is kept
 --     take-put, drop-put, front-put    the front up to the end of what is put, the rest behind it, the front before it
@@ -15,12 +16,18 @@ use mathlib.Core.Bool.{Bool, true, false, _&&_, and-assoc, true≢false}
 use mathlib.Core.List.{List, [], _∷_, _++_, append-assoc, append-nil}
 use Prim.Native.Nat.{ℕ, zero, suc, _+_, _-_, _≤_, _<_}
 use native.Mathlib.Numerals.{add-one}
+use native.Mathlib.Nat.{not-suc-le-zero, le-of-suc-le-suc}
 use native.Mathlib.Omega.{arith}
 use lib.ListN.{length, take, drop, set, replicate, getD, length-take, length-append, length-replicate, length-drop, length-set, take-append-drop, replicate-append-replicate, drop-of-length-le}
 use lib.Seq.{drop-cons, take-suc, take-at, drop-at, set-at, append-snoc, getD-drop, drop-drop, length-take-le, take-take, take-append-add}
 use lib.Dec.{eqb}
 use borrow.Author.Tests.{eqb-true}
 use Rattle.buffer.specs.Run.{put, allZero}
+
+pub take-replicate : {A : Type 0} (n m : ℕ) (v : A) → n ≤ m → take n (replicate m v) ≡ replicate n v
+take-replicate zero m v h = refl
+take-replicate (suc n) zero v h = absurd (not-suc-le-zero h)
+take-replicate {A} (suc n) (suc m) v h = ap (λ (l : List A). v ∷ l) (take-replicate n m v (le-of-suc-le-suc h))
 
 module _ {A : Type 0} (d : List A) (at : ℕ) where
   pub put-none : put d at [] ≡ d

@@ -1,2 +1,3 @@
--- Laws of numbers as bytes.
+-- Laws of lists of numbers, and of numbers as bytes.
+mod Listing
 mod Storing

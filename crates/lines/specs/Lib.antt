@@ -1,2 +1,3 @@
--- What the numbers of a list are as bytes.
+-- What the lists of numbers are, and what their numbers are as bytes.
+pub mod Numbers
 pub mod Bytes

@@ -3,10 +3,16 @@
 // A line has lists with `|` between; what is no digit separates numbers, and `7*40` stands for 40 times 7. Numbers are taken
 // modulo 2^32, and a list that is longer than the words lent for it is cut. In order: one number, one list, the line.
 ghost use mathlib.Core.Path.{_≡_};
-ghost use Prim.Native.Nat.{_+_, _≤_, _<_};
-ghost use lib.ListN.{length, take};
+ghost use mathlib.Core.List.{_++_};
+ghost use Prim.Native.Nat.{_+_, _-_, _≤_};
+ghost use lib.ListN.{length, take, drop, replicate};
+ghost use lib.Dec.{ltb};
 ghost use Rattle.buffer.specs.Run.{put};
+ghost use Rattle.utf8.specs.Pick.{pick};
+ghost use Rattle.pallets.specs.Lines.{indexOf};
+ghost use Rattle.lines.specs.Numbers.{digitOf, further, valueOf, digits, between, value, listed, stored, countAfter};
 ghost use Rattle.lines.specs.Bytes.{bytesOf};
+use pallets::bytes::part_end;
 
 // A number of a list, how many times it stands there, and where it ends.
 struct Item {
@@ -23,7 +29,7 @@ pub struct Stored {
 
 // The value of a digit; 16 for no digit.
 fn digit(b: u8) -> u32
-    ensures { λ r. ⌜ r ≤ 16 ⌝ }
+    ensures { λ r. ⌜ r ≡ digitOf b ⌝ }
 {
     if b < b'0' {
         return 16;
@@ -41,22 +47,22 @@ fn digit(b: u8) -> u32
 }
 
 // A number with one digit more, modulo 2^32.
-fn further(value: u32, base: u32, d: u32) -> u32 {
-    if base == 10 {
-        return (((value as u64) * 10 + (d as u64)) % 4294967296) as u32;
-    }
-    (((value as u64) * 16 + (d as u64)) % 4294967296) as u32
+fn further(base: u32, value: u32, d: u32) -> u32
+    requires { ⌜ base ≤ 16 ⌝ }
+    ensures { λ r. ⌜ r ≡ further base value d ⌝ }
+{
+    (((value as u64) * (base as u64) + (d as u64)) % 4294967296) as u32
 }
 
-// The number whose first digit was `first` and whose others start at `from`, modulo 2^32.
-fn number(line: &[u8], from: usize, base: u32, first: u32) -> Item
-    requires { ⌜ from ≤ length (now line) ⌝ }
-    ensures { λ r. ⌜ (from ≤ r .end) × (r .end ≤ length (now (line .entry))) ⌝ }
+// The number whose first digit was `first` and whose others start at `from`.
+fn number(s: &[u8], from: usize, base: u32, first: u32) -> Item
+    requires { ⌜ (from ≤ length (now s)) × (base ≤ 16) ⌝ }
+    ensures { λ r. ⌜ (r .value ≡ valueOf base first (drop from (now (s .entry)))) × (r .times ≡ 1) × (r .end ≡ from + digits base (drop from (now (s .entry)))) × (r .end ≤ length (now (s .entry))) ⌝ }
 {
     let mut value = first;
     let mut at = from;
-    while at < line.len() {
-        let d = digit(line[at]);
+    while at < s.len() {
+        let d = digit(s[at]);
         if base <= d {
             return Item {
                 value,
@@ -64,7 +70,7 @@ fn number(line: &[u8], from: usize, base: u32, first: u32) -> Item
                 end: at,
             };
         }
-        value = further(value, base, d);
+        value = further(base, value, d);
         at += 1;
     }
     Item {
@@ -75,15 +81,15 @@ fn number(line: &[u8], from: usize, base: u32, first: u32) -> Item
 }
 
 // A number with its `*count`, if it has one.
-fn repeated(line: &[u8], from: usize, base: u32, first: u32) -> Item
-    requires { ⌜ from ≤ length (now line) ⌝ }
-    ensures { λ r. ⌜ (from ≤ r .end) × (r .end ≤ length (now (line .entry))) ⌝ }
+fn repeated(s: &[u8], from: usize, base: u32, first: u32) -> Item
+    requires { ⌜ (from ≤ length (now s)) × (base ≤ 16) ⌝ }
+    ensures { λ r. ⌜ (listed base (value first) (drop from (now (s .entry))) ≡ replicate (r .times) (r .value) ++ listed base between (drop (r .end) (now (s .entry)))) × (from ≤ r .end) × (r .end ≤ length (now (s .entry))) ⌝ }
 {
-    let one = number(line, from, base, first);
+    let one = number(s, from, base, first);
     let end = one.end;
-    if end < line.len() {
-        if line[end] == b'*' {
-            let many = number(line, end + 1, 10, 0);
+    if end < s.len() {
+        if s[end] == b'*' {
+            let many = number(s, end + 1, 10, 0);
             return Item {
                 value: one.value,
                 times: many.value,
@@ -97,7 +103,7 @@ fn repeated(line: &[u8], from: usize, base: u32, first: u32) -> Item
 // Stores v so many times from `count` on, as far as there is room, and gives the new count.
 fn store(out: &mut [u32], count: usize, times: usize, v: u32) -> usize
     requires { ⌜ count ≤ length (now out) ⌝ }
-    ensures { λ r. ⌜ r ≤ length (now (out .exit)) ⌝ }
+    ensures { λ r. ⌜ (now (out .exit) ≡ stored (now (out .entry)) count (replicate times v)) × (r ≡ countAfter (now (out .entry)) count (replicate times v)) ⌝ }
 {
     let room = out.len() - count;
     if room < times {
@@ -108,33 +114,39 @@ fn store(out: &mut [u32], count: usize, times: usize, v: u32) -> usize
     count + times
 }
 
-// Stores the list of numbers that starts at `from` and ends at a `|` or with the line.
-pub fn numbers(line: &[u8], from: usize, base: u32, out: &mut [u32]) -> Stored
-    requires { ⌜ from ≤ length (now line) ⌝ }
-    ensures { λ r. ⌜ (r .end ≤ length (now (line .entry))) × (r .count ≤ length (now (out .exit))) ⌝ }
+// Stores the numbers of a list, as far as there is room, and gives their count.
+fn store_list(s: &[u8], base: u32, out: &mut [u32]) -> usize
+    requires { ⌜ base ≤ 16 ⌝ }
+    ensures { λ r. ⌜ (now (out .exit) ≡ stored (now (out .entry)) 0 (listed base between (now (s .entry)))) × (r ≡ countAfter (now (out .entry)) 0 (listed base between (now (s .entry)))) ⌝ }
 {
     let mut count = 0;
-    let mut at = from;
-    while at < line.len() {
-        let b = line[at];
-        if b == b'|' {
-            return Stored { count, end: at };
-        }
-        let d = digit(b);
+    let mut at = 0;
+    while at < s.len() {
+        let d = digit(s[at]);
         at += 1;
         if d < base {
-            let it = repeated(line, at, base, d);
+            let it = repeated(s, at, base, d);
             count = store(out, count, it.times as usize, it.value);
             at = it.end;
         }
     }
-    Stored { count, end: at }
+    count
+}
+
+// Stores the list of numbers that starts at `from` and ends at a `|` or with the line.
+pub fn numbers(line: &[u8], from: usize, base: u32, out: &mut [u32]) -> Stored
+    requires { ⌜ (from ≤ length (now line)) × (base ≤ 16) ⌝ }
+    ensures { λ r. ⌜ (r .end ≡ from + indexOf 124 (drop from (now (line .entry)))) × (now (out .exit) ≡ stored (now (out .entry)) 0 (listed base between (take (r .end - from) (drop from (now (line .entry)))))) × (r .count ≡ countAfter (now (out .entry)) 0 (listed base between (take (r .end - from) (drop from (now (line .entry)))))) × (r .end ≤ length (now (line .entry))) × (r .count ≤ length (now (out .exit))) ⌝ }
+{
+    let end = part_end(line, from, b'|');
+    let count = store_list(&line[from..end], base, out);
+    Stored { count, end }
 }
 
 // Past the `|` of a list that ended.
 pub fn past(line: &[u8], end: usize) -> usize
     requires { ⌜ end ≤ length (now line) ⌝ }
-    ensures { λ r. ⌜ r ≤ length (now (line .entry)) ⌝ }
+    ensures { λ r. ⌜ (r ≡ pick (ltb end (length (now (line .entry)))) (end + 1) end) × (r ≤ length (now (line .entry))) ⌝ }
 {
     if end < line.len() { end + 1 } else { end }
 }
@@ -156,14 +168,7 @@ pub fn narrow(wide: &[u32], bytes: &mut [u8])
 // Where the line that starts at `from` ends.
 pub fn line_end(input: &[u8], from: usize) -> usize
     requires { ⌜ from ≤ length (now input) ⌝ }
-    ensures { λ r. ⌜ (from ≤ r) × (r ≤ length (now (input .entry))) ⌝ }
+    ensures { λ r. ⌜ (r ≡ from + indexOf 10 (drop from (now (input .entry)))) × (from ≤ r) × (r ≤ length (now (input .entry))) ⌝ }
 {
-    let mut at = from;
-    while at < input.len() {
-        if input[at] == 10 {
-            return at;
-        }
-        at += 1;
-    }
-    at
+    part_end(input, from, 10)
 }

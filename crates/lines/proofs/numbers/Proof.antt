@@ -1,80 +1,45 @@
--- `lines::numbers` meets its contract. Assumes nothing.
+-- `lines::numbers` meets its contract: the list ends before the first `|`. Assumes nothing.
 use borrow.Author.Needs.{needs}
-use mathlib.Core.Path.{_≡_}
-use Prim.Native.Nat.{_-_, _≤_}
-use lib.ListN.{length}
+use native.Mathlib.Omega.{arith}
+use Rattle.pallets.proofs.Saying.{part-within}
+use Rattle.lines.proofs.Storing.{count-within}
 use Rattle.lines.proofs.numbers.Statement.{statement}
 use Rattle.lines.proofs.numbers.Tie as tie
 
-abbrev Inv-loop : tie.InvT-loop
-Inv-loop line from base out₀ count₀ at₀ out count at = (at ≤ length line) × (count ≤ length out) × (length out ≡ length out₀)
+part-end-requires : tie.Need-part-end-requires
+part-end-requires c κs = search needs
 
-abbrev μ-loop : tie.MeasureT-loop
-μ-loop line from base out₀ count₀ at₀ out count at = length line - at
+sub-store-list : tie.Need-sub-store-list
+sub-store-list c = search needs
 
-loop-holds : tie.Need-loop-holds Inv-loop μ-loop
-loop-holds c = search needs
+part-store-list-start : tie.Need-part-store-list-start
+part-store-list-start c = search needs
 
-shared-slice-read-b : tie.Need-shared-slice-read-b Inv-loop μ-loop
-shared-slice-read-b c = search needs
+part-store-list-end : tie.Need-part-store-list-end
+part-store-list-end c = let a = c .before .before .before .args in omega (arith, c .part-end .ensures, part-within (a .line .now) (a .from) 124 (c .before .before .before .pre .0))
 
-same-length : tie.Need-same-length Inv-loop μ-loop
+store-list-requires : tie.Need-store-list-requires
+store-list-requires c κs = search needs
+
+same-length : tie.Need-same-length
 same-length c = search needs
 
-returns : tie.Need-returns Inv-loop μ-loop
-returns c = search needs
-
-digit-requires : tie.Need-digit-requires Inv-loop μ-loop
-digit-requires c κs = search needs
-
-add-at : tie.Need-add-at Inv-loop μ-loop
-add-at c = search needs
-
-repeated-requires : tie.Need-repeated-requires Inv-loop μ-loop
-repeated-requires c κs = search needs
-
-cast-store : tie.Need-cast-store Inv-loop μ-loop
-cast-store c = search needs
-
-store-requires : tie.Need-store-requires Inv-loop μ-loop
-store-requires c κs = search needs
-
-loop-less : tie.Need-loop-less Inv-loop μ-loop
-loop-less c = search needs
-
-loop-again : tie.Need-loop-again Inv-loop μ-loop
-loop-again c = search needs
-
-loop-less-2 : tie.Need-loop-less-2 Inv-loop μ-loop
-loop-less-2 c = search needs
-
-loop-again-2 : tie.Need-loop-again-2 Inv-loop μ-loop
-loop-again-2 c = search needs
-
-same-length-2 : tie.Need-same-length-2 Inv-loop μ-loop
-same-length-2 c = search needs
-
-returns-2 : tie.Need-returns-2 Inv-loop μ-loop
-returns-2 c = search needs
+returns : tie.Need-returns
+returns c =
+    let s = c .before .before .before .before .before .before .before .before in
+    let r = c .before .before .store-list .ensures in
+    let end = c .before .before .before .before .before .part-end .ensures in
+    let within = part-within (s .args .line .now) (s .args .from) 124 (s .pre .0) in
+    (end, r .0, r .1, omega (arith, end, within), count-within _ _ _ _ (r .0) (r .1))
 
 pub numbers-spec : {M : Type 1} → statement M
 numbers-spec =
     tie.close
     (tie.spec
-    Inv-loop
-    μ-loop
-    loop-holds
-    shared-slice-read-b
+    part-end-requires
+    sub-store-list
+    part-store-list-start
+    part-store-list-end
+    store-list-requires
     same-length
-    returns
-    digit-requires
-    add-at
-    repeated-requires
-    cast-store
-    store-requires
-    loop-less
-    loop-again
-    loop-less-2
-    loop-again-2
-    same-length-2
-    returns-2)
+    returns)

@@ -52,7 +52,7 @@ slice-aggregate-lay-out : tie.Need-slice-aggregate-lay-out
 slice-aggregate-lay-out c = sym (length-take-le _ _ (omega arith))
 
 array-share-prefix-text : tie.Need-array-share-prefix-text
-array-share-prefix-text c = search needs
+array-share-prefix-text c = omega (arith, array-share-prefix-wide (c .before .before .before .before .before .before), c .before .before .text2 .given, c .before .before .before .before .before .before .before .before .before .before .wide2 .given)
 
 slice-aggregate-lay-out-2 : tie.Need-slice-aggregate-lay-out-2
 slice-aggregate-lay-out-2 c = sym (length-take-le _ _ (omega arith))

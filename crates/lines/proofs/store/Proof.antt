@@ -1,0 +1,42 @@
+-- `lines::store` meets its contract: as often as there is room for, or all of it. Assumes nothing.
+use borrow.Author.Needs.{needs}
+use Rattle.lines.proofs.Storing.{store-some, store-all}
+use Rattle.lines.proofs.store.Statement.{statement}
+use Rattle.lines.proofs.store.Tie as tie
+
+sub-room : tie.Need-sub-room
+sub-room c = search needs
+
+fill-words-requires : tie.Need-fill-words-requires
+fill-words-requires c κs = search needs
+
+same-length : tie.Need-same-length
+same-length c = search needs
+
+returns : tie.Need-returns
+returns c = let a = c .before .before .before .before .before .before .args in store-some (a .out .now) (a .count) (a .times) (a .v) (c .before .before .before .before .before .before .pre) _ (c .before .before .before .before .if1 .taken) (c .before .before .fill-words .ensures)
+
+fill-words-requires-2 : tie.Need-fill-words-requires-2
+fill-words-requires-2 c κs = search needs
+
+add-result : tie.Need-add-result
+add-result c = search needs
+
+same-length-2 : tie.Need-same-length-2
+same-length-2 c = search needs
+
+returns-2 : tie.Need-returns-2
+returns-2 c = let a = c .before .before .before .before .before .before .args in store-all (a .out .now) (a .count) (a .times) (a .v) (c .before .before .before .before .before .before .pre) _ (c .before .before .before .before .if1 .left) (c .before .before .fill-words2 .ensures)
+
+pub store-spec : {M : Type 1} → statement M
+store-spec =
+    tie.close
+    (tie.spec
+    sub-room
+    fill-words-requires
+    same-length
+    returns
+    fill-words-requires-2
+    add-result
+    same-length-2
+    returns-2)
