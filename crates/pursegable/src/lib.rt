@@ -2,7 +2,6 @@
 //
 // No export has a `requires`. A slice is a pointer and a length in elements; null or overlapping buffers are the caller's business.
 // In order: the report; layout, sheet and label over event records; the same over the events' words.
-mod blocks;
 mod building;
 
 use events::Event;

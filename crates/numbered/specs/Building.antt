@@ -43,39 +43,36 @@ built f table text counts =
 
 -- ---- what `make` makes: a kind's number for its constructor, and numbers after the kinds' for the composed ones
 
-unfoldable pub leafMade : ℕ → Counts → List ℕ → List ℕ → Outcome
-leafMade what s table text =
+-- those that leave the text as it is
+unfoldable pub readingMade : ℕ → ℕ → ℕ → ℕ → Counts → List ℕ → List ℕ → Outcome
+readingMade what a b d s table text =
     pick (eqb what 0) (c.nilMade s table text)
-    (pick (eqb what 5) (c.hardlineMade s table text)
-    (pick (eqb what 10) (c.failMade s table text)
-    (pick (eqb what 11) (c.spaceMade s table text)
-    (pick (eqb what 12) (c.lineMade s table text)
-    (pick (eqb what 13) (c.line₀Made s table text)
-    (pick (eqb what 14) (c.softlineMade s table text)
-    (c.softline₀Made s table text)))))))
-
-unfoldable pub innerMade : ℕ → ℕ → ℕ → ℕ → Counts → List ℕ → List ℕ → Outcome
-innerMade what a b d s table text =
-    pick (eqb what 1) (c.appendMade s table text a b)
+    (pick (eqb what 1) (c.appendMade s table text a b)
     (pick (eqb what 2) (c.groupMade s table text a)
     (pick (eqb what 3) (c.flatAltMade s table text a b)
     (pick (eqb what 4) (c.nestMade s table text a b d)
+    (pick (eqb what 5) (c.hardlineMade s table text)
     (pick (eqb what 7) (c.annotateMade s table text a b)
     (pick (eqb what 8) (c.unionMade s table text a b)
     (pick (eqb what 9) (c.alignMade s table text a)
+    (pick (eqb what 10) (c.failMade s table text)
+    (pick (eqb what 13) (c.line₀Made s table text)
+    (pick (eqb what 15) (c.softline₀Made s table text)
     (pick (eqb what 16) (c.hangMade s table text a b d)
+    (c.encloseMade s table text a b d)))))))))))))
+
+-- and those that write blanks into it
+unfoldable pub anyMade : ℕ → ℕ → ℕ → ℕ → Counts → List ℕ → List ℕ → Outcome
+anyMade what a b d s table text =
+    pick (eqb what 11) (c.spaceMade s table text)
+    (pick (eqb what 12) (c.lineMade s table text)
+    (pick (eqb what 14) (c.softlineMade s table text)
     (pick (eqb what 17) (c.indentMade s table text a b)
-    (c.encloseMade s table text a b d)))))))))
+    (readingMade what a b d s table text))))
 
-abbrev pub isLeaf : ℕ → Bool
-isLeaf what = eqb what 0 || eqb what 5 || (leb 10 what && leb what 15)
-
--- Text has a function of its own
+-- numbers to 18; Text, number 6, has a function of its own
 abbrev pub known : ℕ → Bool
 known what = leb what 18 && not (eqb what 6)
-
-abbrev pub anyMade : ℕ → ℕ → ℕ → ℕ → Counts → List ℕ → List ℕ → Outcome
-anyMade what a b d s table text = pick (isLeaf what) (leafMade what s table text) (innerMade what a b d s table text)
 
 -- counts below three words are answer 1; then an unknown constructor is answer 2
 unfoldable pub makes : ℕ → ℕ → ℕ → ℕ → List ℕ → List ℕ → List ℕ → Left

@@ -12,28 +12,27 @@ use Rattle.build.specs.declared.Counts.{Counts}
 use Rattle.build.specs.declared.Made.{Made}
 use Rattle.build.specs.Sheet.{countsOf}
 use Rattle.build.specs.Outcome.{Outcome, outcome}
-use Rattle.build.specs.Constructors.{softline₀Made, encloseMade}
-use Rattle.pursegable.specs.Building.{left, answerOf, countsAfter, settled, built, leafMade, innerMade, isLeaf, known, anyMade, makes}
+use Rattle.build.specs.Constructors.{encloseMade}
+use Rattle.numbered.specs.Building.{left, answerOf, countsAfter, settled, built, known, readingMade, anyMade, makes}
 
 -- ---- by number
 
-pub leaf-at : (what k : ℕ) (s : Counts) (t x : List ℕ) (o : Outcome) → what ≡ k → o ≡ leafMade k s t x → o ≡ leafMade what s t x
-leaf-at what k s t x o e h = h ∙ ap (λ (w : ℕ). leafMade w s t x) (sym e)
+module _ (what a b d : ℕ) (s : Counts) (t x : List ℕ) where
+  pub reading-at : (k : ℕ) (o : Outcome) → what ≡ k → o ≡ readingMade k a b d s t x → o ≡ readingMade what a b d s t x
+  reading-at k o e h = h ∙ ap (λ (w : ℕ). readingMade w a b d s t x) (sym e)
 
-pub inner-at : (what a b d k : ℕ) (s : Counts) (t x : List ℕ) (o : Outcome) → what ≡ k → o ≡ innerMade k a b d s t x → o ≡ innerMade what a b d s t x
-inner-at what a b d k s t x o e h = h ∙ ap (λ (w : ℕ). innerMade w a b d s t x) (sym e)
+  pub any-at : (k : ℕ) (o : Outcome) → what ≡ k → o ≡ anyMade k a b d s t x → o ≡ anyMade what a b d s t x
+  any-at k o e h = h ∙ ap (λ (w : ℕ). anyMade w a b d s t x) (sym e)
 
-module _ (what : ℕ) (s : Counts) (t x : List ℕ) where
-  pub leaf-rest : (what ≡ 0 → ⊥) → (what ≡ 5 → ⊥) → (what ≡ 10 → ⊥) → (what ≡ 11 → ⊥) → (what ≡ 12 → ⊥) → (what ≡ 13 → ⊥) → (what ≡ 14 → ⊥)
-      → softline₀Made s t x ≡ leafMade what s t x
-  unfolding leafMade
-  leaf-rest a b c d e f g = simp (ne-eqb what 0 a, ne-eqb what 5 b, ne-eqb what 10 c, ne-eqb what 11 d, ne-eqb what 12 e, ne-eqb what 13 f, ne-eqb what 14 g)
+  pub reading-rest : (o : Outcome) → (what ≡ 0 → ⊥) → (what ≡ 1 → ⊥) → (what ≡ 2 → ⊥) → (what ≡ 3 → ⊥) → (what ≡ 4 → ⊥) → (what ≡ 5 → ⊥) → (what ≡ 7 → ⊥) → (what ≡ 8 → ⊥) → (what ≡ 9 → ⊥) → (what ≡ 10 → ⊥) → (what ≡ 13 → ⊥) → (what ≡ 15 → ⊥) → (what ≡ 16 → ⊥)
+      → o ≡ encloseMade s t x a b d → o ≡ readingMade what a b d s t x
+  unfolding readingMade
+  reading-rest o h0 h1 h2 h3 h4 h5 h7 h8 h9 h10 h13 h15 h16 e =
+      e ∙ simp (ne-eqb what 0 h0, ne-eqb what 1 h1, ne-eqb what 2 h2, ne-eqb what 3 h3, ne-eqb what 4 h4, ne-eqb what 5 h5, ne-eqb what 7 h7, ne-eqb what 8 h8, ne-eqb what 9 h9, ne-eqb what 10 h10, ne-eqb what 13 h13, ne-eqb what 15 h15, ne-eqb what 16 h16)
 
-  pub inner-rest : (n before after : ℕ) → (what ≡ 1 → ⊥) → (what ≡ 2 → ⊥) → (what ≡ 3 → ⊥) → (what ≡ 4 → ⊥) → (what ≡ 7 → ⊥) → (what ≡ 8 → ⊥) → (what ≡ 9 → ⊥) → (what ≡ 16 → ⊥) → (what ≡ 17 → ⊥)
-      → encloseMade s t x n before after ≡ innerMade what n before after s t x
-  unfolding innerMade
-  inner-rest n before after a b c d e f g h i =
-      simp (ne-eqb what 1 a, ne-eqb what 2 b, ne-eqb what 3 c, ne-eqb what 4 d, ne-eqb what 7 e, ne-eqb what 8 f, ne-eqb what 9 g, ne-eqb what 16 h, ne-eqb what 17 i)
+  pub any-rest : (o : Outcome) → (what ≡ 11 → ⊥) → (what ≡ 12 → ⊥) → (what ≡ 14 → ⊥) → (what ≡ 17 → ⊥) → o ≡ readingMade what a b d s t x → o ≡ anyMade what a b d s t x
+  unfolding anyMade
+  any-rest o h11 h12 h14 h17 e = e ∙ simp (ne-eqb what 11 h11, ne-eqb what 12 h12, ne-eqb what 14 h14, ne-eqb what 17 h17)
 
 -- ---- the builder's words
 
@@ -80,10 +79,3 @@ module _ (what a b d : ℕ) (t x cs : List ℕ) where
   pub makes-settled : (s : Counts) (made : Made) (t′ x′ cs′ : List ℕ) (r : ℕ) → 3 ≤ length cs → known what ≡ true → s ≡ countsOf (getD cs 0 0) (getD cs 1 0)
       → outcome made t′ x′ ≡ anyMade what a b d s t x → (r ≡ answerOf made) × (cs′ ≡ countsAfter made cs) → left r t′ x′ cs′ ≡ makes what a b d t x cs
   makes-settled s made t′ x′ cs′ r h k is o e = built-settled (anyMade what a b d) t x cs s made t′ x′ cs′ r h is o e ∙ makes-known h k
-
-module _ (what a b d : ℕ) (s : Counts) (t x : List ℕ) (o : Outcome) where
-  pub any-leaf : isLeaf what ≡ true → o ≡ leafMade what s t x → o ≡ anyMade what a b d s t x
-  any-leaf e h = h ∙ ap (λ (k : Bool). pick k (leafMade what s t x) (innerMade what a b d s t x)) (sym e)
-
-  pub any-inner : isLeaf what ≡ false → o ≡ innerMade what a b d s t x → o ≡ anyMade what a b d s t x
-  any-inner e h = h ∙ ap (λ (k : Bool). pick k (leafMade what s t x) (innerMade what a b d s t x)) (sym e)

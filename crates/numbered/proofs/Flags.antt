@@ -17,8 +17,8 @@ use Rattle.build.specs.declared.Made.the-variants.{Refused}
 use Rattle.block.specs.declared.Block.{Block}
 use Rattle.block.specs.Block.{sizesRight, formatMade}
 use Rattle.block.proofs.Alternatives.{format-sizes}
-use Rattle.pursegable.specs.Building.{left, answerOf, countsAfter, built, flagsOf}
-use Rattle.pursegable.proofs.Making.{built-settled}
+use Rattle.numbered.specs.Building.{left, answerOf, countsAfter, built, flagsOf}
+use Rattle.numbered.proofs.Making.{built-settled}
 
 pub length-flags : (bs : List ℕ) → length (flagsOf bs) ≡ length bs
 unfolding flagsOf

@@ -1,13 +1,13 @@
--- `pursegable_intersperse` meets its contract: too few words, or what the constructor answers.
+-- `intersperse` meets its contract: too few words, or what the constructor answers.
 -- Assumes nothing.
 use borrow.Author.Needs.{needs}
 use Rattle.build.specs.declared.Counts.{Counts}
 use Rattle.build.specs.Constructors.{intersperseMade}
 use mathlib.Core.List.{List}
 use Prim.Native.Nat.{ℕ}
-use Rattle.pursegable.proofs.Making.{built-short, built-settled}
-use Rattle.pursegable.proofs.building.pursegable_intersperse.Statement.{statement}
-use Rattle.pursegable.proofs.building.pursegable_intersperse.Tie as tie
+use Rattle.numbered.proofs.Making.{built-short, built-settled}
+use Rattle.numbered.proofs.intersperse.Statement.{statement}
+use Rattle.numbered.proofs.intersperse.Tie as tie
 
 returns : tie.Need-returns
 returns c = built-short _ _ _ _ (c .if1 .taken)
@@ -30,8 +30,8 @@ same-length-2 c = search needs
 returns-2 : tie.Need-returns-2
 returns-2 c = built-settled (λ (s : Counts) (t x : List ℕ). intersperseMade s t x (c .before .before .before .before .before .before .before .before .before .before .before .before .before .before .before .args .nodes .now) (c .before .before .before .before .before .before .before .before .before .before .before .before .before .before .before .args .separator)) _ _ _ _ _ _ _ _ _ (c .before .before .before .before .before .before .before .before .before .before .if1 .left) (c .before .before .before .before .before .before .before .before .counts-of .ensures) (c .before .before .before .before .before .before .intersperse .ensures) (c .before .before .settle .ensures)
 
-pub pursegable-intersperse-spec : {M : Type 1} → statement M
-pursegable-intersperse-spec =
+pub intersperse-spec : {M : Type 1} → statement M
+intersperse-spec =
     tie.close
     (tie.spec
     returns

@@ -1,13 +1,13 @@
--- `pursegable_concat` meets its contract: too few words, or what the constructor answers.
+-- `concat` meets its contract: too few words, or what the constructor answers.
 -- Assumes nothing.
 use borrow.Author.Needs.{needs}
 use Rattle.build.specs.declared.Counts.{Counts}
 use Rattle.build.specs.Constructors.{concatMade}
 use mathlib.Core.List.{List}
 use Prim.Native.Nat.{ℕ}
-use Rattle.pursegable.proofs.Making.{built-short, built-settled}
-use Rattle.pursegable.proofs.building.pursegable_concat.Statement.{statement}
-use Rattle.pursegable.proofs.building.pursegable_concat.Tie as tie
+use Rattle.numbered.proofs.Making.{built-short, built-settled}
+use Rattle.numbered.proofs.concat.Statement.{statement}
+use Rattle.numbered.proofs.concat.Tie as tie
 
 returns : tie.Need-returns
 returns c = built-short _ _ _ _ (c .if1 .taken)
@@ -30,8 +30,8 @@ same-length-2 c = search needs
 returns-2 : tie.Need-returns-2
 returns-2 c = built-settled (λ (s : Counts) (t x : List ℕ). concatMade s t x (c .before .before .before .before .before .before .before .before .before .before .before .before .before .before .before .args .nodes .now)) _ _ _ _ _ _ _ _ _ (c .before .before .before .before .before .before .before .before .before .before .if1 .left) (c .before .before .before .before .before .before .before .before .counts-of .ensures) (c .before .before .before .before .before .before .concat .ensures) (c .before .before .settle .ensures)
 
-pub pursegable-concat-spec : {M : Type 1} → statement M
-pursegable-concat-spec =
+pub concat-spec : {M : Type 1} → statement M
+concat-spec =
     tie.close
     (tie.spec
     returns

@@ -1,13 +1,13 @@
--- `pursegable_text` meets its contract: too few words, or what the constructor answers.
+-- `text` meets its contract: too few words, or what the constructor answers.
 -- Assumes nothing.
 use borrow.Author.Needs.{needs}
 use Rattle.build.specs.declared.Counts.{Counts}
 use Rattle.build.specs.Constructors.{textMade}
 use mathlib.Core.List.{List}
 use Prim.Native.Nat.{ℕ}
-use Rattle.pursegable.proofs.Making.{built-short, built-settled}
-use Rattle.pursegable.proofs.building.pursegable_text.Statement.{statement}
-use Rattle.pursegable.proofs.building.pursegable_text.Tie as tie
+use Rattle.numbered.proofs.Making.{built-short, built-settled}
+use Rattle.numbered.proofs.text.Statement.{statement}
+use Rattle.numbered.proofs.text.Tie as tie
 
 returns : tie.Need-returns
 returns c = built-short _ _ _ _ (c .if1 .taken)
@@ -33,8 +33,8 @@ same-length-3 c = search needs
 returns-2 : tie.Need-returns-2
 returns-2 c = built-settled (λ (s : Counts) (t x : List ℕ). textMade s t x (c .before .before .before .before .before .before .before .before .before .before .before .before .before .before .before .before .before .before .args .bytes .now) (c .before .before .before .before .before .before .before .before .before .before .before .before .before .before .before .before .before .before .args .columns)) _ _ _ _ _ _ _ _ _ (c .before .before .before .before .before .before .before .before .before .before .before .before .before .if1 .left) (c .before .before .before .before .before .before .before .before .before .before .before .counts-of .ensures) (c .before .before .before .before .before .before .before .before .text .ensures) (c .before .before .settle .ensures)
 
-pub pursegable-text-spec : {M : Type 1} → statement M
-pursegable-text-spec =
+pub text-spec : {M : Type 1} → statement M
+text-spec =
     tie.close
     (tie.spec
     returns
