@@ -1,5 +1,4 @@
 -- Laws that the exports' proofs cite.
 pub mod Answering
-pub mod Flags
-pub mod Making
+pub mod Defaults
 pub mod Unique

@@ -1,3 +1,2 @@
--- What the exported functions promise.
+-- What the exported layouts promise; of the other exports it is numbered's specs that say it.
 pub mod Exported
-pub mod Building

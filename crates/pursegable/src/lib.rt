@@ -2,7 +2,6 @@
 //
 // No export has a `requires`. A slice is a pointer and a length in elements; null or overlapping buffers are the caller's business.
 // In order: the report; layout, sheet and label over event records; the same over the events' words.
-mod blocks;
 mod building;
 
 use events::Event;
@@ -32,13 +31,13 @@ fn limit_for(limit: u32, words: usize) -> u32
     limit
 }
 
-// Fills the report, where there is room for it; the rest of its words are zero.
-fn tell(r: Report, report: &mut [u32])
-    ensures { λ _. ⌜ now (report .exit) ≡ told (r .answer ∷ r .place .0 ∷ r .steps ∷ r .used ∷ r .marks ∷ []) (length (now (report .entry))) ⌝ }
+// Fills the report, where there is room for it; the rest of its words are zero. Gives the answer.
+fn tell(r: Report, report: &mut [u32]) -> u32
+    ensures { λ a. ⌜ (a ≡ r .answer) × (now (report .exit) ≡ told (r .answer ∷ r .place .0 ∷ r .steps ∷ r .used ∷ r .marks ∷ []) (length (now (report .entry)))) ⌝ }
 {
     buffer::clear_words(report);
     if report.len() < REPORT_WORDS {
-        return;
+        return r.answer;
     }
     let place = r.place;
     report[0] = r.answer;
@@ -46,6 +45,7 @@ fn tell(r: Report, report: &mut [u32])
     report[2] = r.steps;
     report[3] = r.used;
     report[4] = r.marks;
+    r.answer
 }
 
 // Lays a table out at a width, with a step limit. The answer is returned, and is the report's first word.
@@ -65,8 +65,7 @@ pub extern "C" fn pursegable_layout(
     let words = report.len();
     let limit = limit_for(limit, words);
     let r = events::layout(table, text, width, limit, out, events, work);
-    tell(r, report);
-    r.answer
+    tell(r, report)
 }
 
 // The whole sheet, at the default width and step limit.
@@ -133,6 +132,5 @@ pub extern "C" fn pursegable_layout_words(
 {
     let limit = limit_for(limit, report.len());
     let r = sheet::layout(table, text, width, limit, out, events, work);
-    tell(r, report);
-    r.answer
+    tell(r, report)
 }

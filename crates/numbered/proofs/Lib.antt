@@ -1,0 +1,4 @@
+-- Laws that the proofs cite.
+pub mod Flags
+pub mod Making
+pub mod Unique

@@ -1,0 +1,65 @@
+-- `block` meets its contract: too few words, too many flags, or what the block layout answers.
+-- Assumes nothing.
+use borrow.Author.Needs.{needs}
+use mathlib.Core.Path.{sym}
+use native.Mathlib.Omega.{arith}
+use lib.Seq.{length-take-le}
+use Rattle.numbered.proofs.Making.{built-short}
+use Rattle.numbered.proofs.Flags.{block-many, block-settled}
+use Rattle.numbered.proofs.block.Statement.{statement}
+use Rattle.numbered.proofs.block.Tie as tie
+
+returns : tie.Need-returns
+returns c = built-short _ _ _ _ (c .if1 .taken)
+
+returns-2 : tie.Need-returns-2
+returns-2 c = block-many _ _ _ (c .before .before .before .before .before .before .before .before .args .nests .now) _ _ _ (c .before .if1 .left) (c .if2 .taken)
+
+slice-aggregate-set-flags : tie.Need-slice-aggregate-set-flags
+slice-aggregate-set-flags c = search needs
+
+set-flags-requires : tie.Need-set-flags-requires
+set-flags-requires c κs = search needs
+
+counts-of-requires : tie.Need-counts-of-requires
+counts-of-requires c κs = search needs
+
+array-share-prefix-flags : tie.Need-array-share-prefix-flags
+array-share-prefix-flags c = search needs
+
+slice-aggregate-format : tie.Need-slice-aggregate-format
+slice-aggregate-format c = sym (length-take-le _ _ (omega arith))
+
+format-requires : tie.Need-format-requires
+format-requires c κs = search needs
+
+settle-requires : tie.Need-settle-requires
+settle-requires c κs = search needs
+
+same-length : tie.Need-same-length
+same-length c = search needs
+
+same-length-2 : tie.Need-same-length-2
+same-length-2 c = search needs
+
+returns-3 : tie.Need-returns-3
+returns-3 c =
+    block-settled _ _ _ (c .before .before .before .before .before .before .before .before .before .before .before .before .before .before .before .before .before .before .before .before .before .before .args .nests .now) _ _ _ _ _ _ _ _ _ _ (c .before .before .before .before .before .before .before .before .before .before .before .before .before .before .before .if1 .left) (c .before .before .before .before .before .before .before .before .before .counts-of .ensures) (c .before .before .before .before .before .before .before .before .before .before .before .before .set-flags .ensures)
+    (c .before .before .before .before .before .before .format .ensures) (c .before .before .settle .ensures)
+
+pub block-spec : {M : Type 1} → statement M
+block-spec =
+    tie.close
+    (tie.spec
+    returns
+    returns-2
+    slice-aggregate-set-flags
+    set-flags-requires
+    counts-of-requires
+    array-share-prefix-flags
+    slice-aggregate-format
+    format-requires
+    settle-requires
+    same-length
+    same-length-2
+    returns-3)

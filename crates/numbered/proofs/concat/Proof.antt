@@ -1,0 +1,43 @@
+-- `concat` meets its contract: too few words, or what the constructor answers.
+-- Assumes nothing.
+use borrow.Author.Needs.{needs}
+use Rattle.build.specs.declared.Counts.{Counts}
+use Rattle.build.specs.Constructors.{concatMade}
+use mathlib.Core.List.{List}
+use Prim.Native.Nat.{ℕ}
+use Rattle.numbered.proofs.Making.{built-short, built-settled}
+use Rattle.numbered.proofs.concat.Statement.{statement}
+use Rattle.numbered.proofs.concat.Tie as tie
+
+returns : tie.Need-returns
+returns c = built-short _ _ _ _ (c .if1 .taken)
+
+counts-of-requires : tie.Need-counts-of-requires
+counts-of-requires c κs = search needs
+
+concat-requires : tie.Need-concat-requires
+concat-requires c κs = search needs
+
+settle-requires : tie.Need-settle-requires
+settle-requires c κs = search needs
+
+same-length : tie.Need-same-length
+same-length c = search needs
+
+same-length-2 : tie.Need-same-length-2
+same-length-2 c = search needs
+
+returns-2 : tie.Need-returns-2
+returns-2 c = built-settled (λ (s : Counts) (t x : List ℕ). concatMade s t x (c .before .before .before .before .before .before .before .before .before .before .before .before .before .before .before .args .nodes .now)) _ _ _ _ _ _ _ _ _ (c .before .before .before .before .before .before .before .before .before .before .if1 .left) (c .before .before .before .before .before .before .before .before .counts-of .ensures) (c .before .before .before .before .before .before .concat .ensures) (c .before .before .settle .ensures)
+
+pub concat-spec : {M : Type 1} → statement M
+concat-spec =
+    tie.close
+    (tie.spec
+    returns
+    counts-of-requires
+    concat-requires
+    settle-requires
+    same-length
+    same-length-2
+    returns-2)

@@ -1,0 +1,53 @@
+-- `settle` meets its contract: a node's counts go into the caller's words, a refusal leaves them.
+-- Assumes nothing.
+use borrow.Author.Needs.{needs}
+use mathlib.Core.Path.{sym, ap, _∙_}
+use native.Mathlib.Omega.{arith}
+use lib.ListN.{length-set}
+use Rattle.build.specs.declared.Made.{Made}
+use Rattle.numbered.specs.Building.{answerOf, countsAfter}
+use Rattle.numbered.proofs.Making.{counts-set}
+use Rattle.numbered.proofs.counts.settle.Statement.{statement}
+use Rattle.numbered.proofs.counts.settle.Tie as tie
+
+enum-known-made : tie.Need-enum-known-made
+enum-known-made c = search needs
+
+slice-write-counts : tie.Need-slice-write-counts
+slice-write-counts c = search needs
+
+slice-write-counts-2 : tie.Need-slice-write-counts-2
+slice-write-counts-2 c = simp length-set (omega arith)
+
+slice-write-counts-3 : tie.Need-slice-write-counts-3
+slice-write-counts-3 c = search needs
+
+enum-known-made-2 : tie.Need-enum-known-made-2
+enum-known-made-2 c = search needs
+
+number-requires : tie.Need-number-requires
+number-requires c κs = search needs
+
+same-length : tie.Need-same-length
+same-length c = search needs
+
+returns : tie.Need-returns
+returns c = let e = c .before .made .given .1 in
+    (sym (ap answerOf e), counts-set (c .before .before .before .before .args .counts .now) _ _ _ (c .before .before .before .before .pre) ∙ sym (ap (λ (m : Made). countsAfter m (c .before .before .before .before .args .counts .now)) e))
+
+returns-2 : tie.Need-returns-2
+returns-2 c = search needs
+
+pub settle-spec : {M : Type 1} → statement M
+settle-spec =
+    tie.close
+    (tie.spec
+    enum-known-made
+    slice-write-counts
+    slice-write-counts-2
+    slice-write-counts-3
+    enum-known-made-2
+    number-requires
+    same-length
+    returns
+    returns-2)

@@ -1,0 +1,43 @@
+-- `intersperse` meets its contract: too few words, or what the constructor answers.
+-- Assumes nothing.
+use borrow.Author.Needs.{needs}
+use Rattle.build.specs.declared.Counts.{Counts}
+use Rattle.build.specs.Constructors.{intersperseMade}
+use mathlib.Core.List.{List}
+use Prim.Native.Nat.{ℕ}
+use Rattle.numbered.proofs.Making.{built-short, built-settled}
+use Rattle.numbered.proofs.intersperse.Statement.{statement}
+use Rattle.numbered.proofs.intersperse.Tie as tie
+
+returns : tie.Need-returns
+returns c = built-short _ _ _ _ (c .if1 .taken)
+
+counts-of-requires : tie.Need-counts-of-requires
+counts-of-requires c κs = search needs
+
+intersperse-requires : tie.Need-intersperse-requires
+intersperse-requires c κs = search needs
+
+settle-requires : tie.Need-settle-requires
+settle-requires c κs = search needs
+
+same-length : tie.Need-same-length
+same-length c = search needs
+
+same-length-2 : tie.Need-same-length-2
+same-length-2 c = search needs
+
+returns-2 : tie.Need-returns-2
+returns-2 c = built-settled (λ (s : Counts) (t x : List ℕ). intersperseMade s t x (c .before .before .before .before .before .before .before .before .before .before .before .before .before .before .before .args .nodes .now) (c .before .before .before .before .before .before .before .before .before .before .before .before .before .before .before .args .separator)) _ _ _ _ _ _ _ _ _ (c .before .before .before .before .before .before .before .before .before .before .if1 .left) (c .before .before .before .before .before .before .before .before .counts-of .ensures) (c .before .before .before .before .before .before .intersperse .ensures) (c .before .before .settle .ensures)
+
+pub intersperse-spec : {M : Type 1} → statement M
+intersperse-spec =
+    tie.close
+    (tie.spec
+    returns
+    counts-of-requires
+    intersperse-requires
+    settle-requires
+    same-length
+    same-length-2
+    returns-2)

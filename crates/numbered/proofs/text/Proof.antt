@@ -1,0 +1,47 @@
+-- `text` meets its contract: too few words, or what the constructor answers.
+-- Assumes nothing.
+use borrow.Author.Needs.{needs}
+use Rattle.build.specs.declared.Counts.{Counts}
+use Rattle.build.specs.Constructors.{textMade}
+use mathlib.Core.List.{List}
+use Prim.Native.Nat.{ℕ}
+use Rattle.numbered.proofs.Making.{built-short, built-settled}
+use Rattle.numbered.proofs.text.Statement.{statement}
+use Rattle.numbered.proofs.text.Tie as tie
+
+returns : tie.Need-returns
+returns c = built-short _ _ _ _ (c .if1 .taken)
+
+counts-of-requires : tie.Need-counts-of-requires
+counts-of-requires c κs = search needs
+
+text-requires : tie.Need-text-requires
+text-requires c κs = search needs
+
+settle-requires : tie.Need-settle-requires
+settle-requires c κs = search needs
+
+same-length : tie.Need-same-length
+same-length c = search needs
+
+same-length-2 : tie.Need-same-length-2
+same-length-2 c = search needs
+
+same-length-3 : tie.Need-same-length-3
+same-length-3 c = search needs
+
+returns-2 : tie.Need-returns-2
+returns-2 c = built-settled (λ (s : Counts) (t x : List ℕ). textMade s t x (c .before .before .before .before .before .before .before .before .before .before .before .before .before .before .before .before .before .before .args .bytes .now) (c .before .before .before .before .before .before .before .before .before .before .before .before .before .before .before .before .before .before .args .columns)) _ _ _ _ _ _ _ _ _ (c .before .before .before .before .before .before .before .before .before .before .before .before .before .if1 .left) (c .before .before .before .before .before .before .before .before .before .before .before .counts-of .ensures) (c .before .before .before .before .before .before .before .before .text .ensures) (c .before .before .settle .ensures)
+
+pub text-spec : {M : Type 1} → statement M
+text-spec =
+    tie.close
+    (tie.spec
+    returns
+    counts-of-requires
+    text-requires
+    settle-requires
+    same-length
+    same-length-2
+    same-length-3
+    returns-2)

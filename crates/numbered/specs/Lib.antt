@@ -1,0 +1,2 @@
+-- What the constructors and block layouts by number promise.
+pub mod Building
