@@ -4,10 +4,10 @@ use mathlib.Core.Path.{refl}
 use Rattle.build.specs.Sheet.{counted}
 use Rattle.build.specs.Parts.{concat}
 use Rattle.build.proofs.Only.{concat-adds}
-use Rattle.block.proofs.Chain.{ran-made, ran-older, start-list}
-use Rattle.block.proofs.Layers.{list-none, list-some}
-use Rattle.block.proofs.parts.list.Statement.{statement}
-use Rattle.block.proofs.parts.list.Tie as tie
+use Rattle.affixes.proofs.Chain.{ran-made, ran-older, start-list}
+use Rattle.affixes.proofs.Layers.{list-none, list-some}
+use Rattle.affixes.proofs.list.Statement.{statement}
+use Rattle.affixes.proofs.list.Tie as tie
 
 returns : tie.Need-returns
 returns c = rw (list-none (counted (c .before .before .before .before .args .c) (c .before .before .before .before .args .table .now) (c .before .before .before .before .args .text .now)) (c .before .before .before .before .args .none .0) (c .before .before .before .before .args .nodes .now) (c .if1 .taken)) (ran-older (c .before .before .before .before .pre .0) (c .before .before .before .before .args .none))

@@ -3,13 +3,15 @@
 --     begin, ready   before the first part; what the next part asks
 --     ran-made, ran-older   what a constructor promises, and a node given back, as a run of one part
 --     go, go-made, at, stop   one part more; its answer taken apart; handed on
+--     shares-later, two   what is there stays there
+--     ran-append     Append as a run of one part
 --     first-stops .. group-last   two parts and a group
 -- Assumes nothing.
 use Prim.Native.Nat.{ℕ, _/_, _≤_, _<_}
 use native.Mathlib.Omega.{arith}
 use native.Mathlib.Decide.{decLt}
 use mathlib.Core.Path.{_≡_, refl, sym, ap, _∙_, subst}
-use mathlib.Core.Bool.{Bool, true, false, true≢false}
+use mathlib.Core.Bool.{Bool, true, false, true≢false, _&&_}
 use mathlib.Core.List.{List}
 use lib.ListN.{length}
 use borrow.Author.Tests.{eq-eqb, lt-ltb}
@@ -20,16 +22,17 @@ use Rattle.build.specs.declared.Why.the-variants.{Nodes}
 use Rattle.build.specs.declared.Made.{Made}
 use Rattle.build.specs.declared.Made.the-variants.{Node, Refused}
 use Rattle.build.specs.Sheet.{Sheet, Built, counted, older}
-use Rattle.build.specs.Parts.{group}
+use Rattle.build.specs.Parts.{append, group}
 use Rattle.build.specs.Outcome.{fits, Outcome, outcome, made}
-use Rattle.build.specs.Constructors.{has, hasAll, groupMade}
+use Rattle.build.specs.Constructors.{has, hasAll, appendMade, groupMade}
 use Rattle.build.proofs.Grow.{Grown, same, then, more-nodes, more-bytes}
 use Rattle.build.proofs.Room.{Fits, fits-of, of-fits, stretch, Room}
 use Rattle.build.proofs.Stand.{Stands, same-words, stands-counted, start, Went, went-added, taken, never, done}
 use Rattle.build.proofs.Joins.{Below, below-of}
-use Rattle.build.proofs.Only.{Adds, adds-then, group-adds, made-whole, made-short}
-use Rattle.block.specs.Run.{Ready, Ran}
-use Rattle.block.proofs.Layers.{of-below}
+use Rattle.build.proofs.Only.{Adds, adds-then, append-adds, group-adds, made-whole, made-short}
+use Rattle.affixes.specs.declared.Shared.{Shared}
+use Rattle.affixes.specs.Run.{Ready, Shares, Ran}
+use Rattle.affixes.proofs.Layers.{of-below}
 
 -- where a run that began with counts c over the table stands
 pub record At (c : Counts) (table text : List ℕ) (s : Sheet) (c₁ : Counts) (table₁ : List ℕ) : Type 0 where
@@ -206,6 +209,13 @@ module _ {c : Counts} {table text : List ℕ} {s : Sheet} {c₁ : Counts} {table
   pub counted-list : (ns : List ℕ) → Below (s .counts .nodes) ns → hasAll c₁ ns ≡ true
   counted-list ns b = rw (a .stands .counts) (of-below (s .counts) ns b)
 
+  pub shares-later : {sh : Shared} → Shares c sh → Shares c₁ sh
+  shares-later k = let l = later a in record { none = omega (arith, k .none); guard = omega (arith, k .guard) }
+
+  -- two operands that are there
+  pub two : (n m : ℕ) → n < s .counts .nodes → m < s .counts .nodes → has c₁ n && has c₁ m ≡ true
+  two n m h k = rw (operand n h, operand m k) refl
+
 -- what is there at the start
 pub start-node : {c : Counts} {table text : List ℕ} → Ready c table text → {n : ℕ} → n < c .nodes → n < counted c table text .counts .nodes
 unfolding counted
@@ -214,6 +224,11 @@ start-node r h = h
 pub start-list : {c : Counts} {table text : List ℕ} → Ready c table text → (ns : List ℕ) → hasAll c ns ≡ true → Below (counted c table text .counts .nodes) ns
 unfolding counted
 start-list {c} r ns h = below-of c ns h
+
+-- Append as a run of one part
+pub ran-append : {c : Counts} {table text : List ℕ} → Ready c table text → (n m : ℕ) → n < c .nodes → m < c .nodes → {r : Made} {table′ : List ℕ} → outcome r table′ text ≡ appendMade c table text n m → Ran c table text (append (counted c table text) n m) r table′
+ran-append {c} {table} {text} k n m h j o =
+    ran-made k (λ s. append s n m) (append-adds (counted c table text) n m (start-node k h) (start-node k j)) (rw (lt-ltb n (c .nodes) h, lt-ltb m (c .nodes) j) refl) refl o
 
 -- ---- two parts and a group
 

@@ -3,12 +3,11 @@ use borrow.Author.Needs.{needs}
 use lib.ListN.{length}
 use lib.Dec.{ltb}
 use Rattle.build.specs.Sheet.{counted}
-use Rattle.block.specs.Block.{list, guarded, head}
-use Rattle.block.proofs.Layers.{stays-there, list-adds, guarded-adds}
-use Rattle.block.proofs.Chain.{ready, start-node, start-list, counted-node, at, first-stops, second-stops, group-last}
-use Rattle.block.proofs.Steps.{shares-later}
-use Rattle.block.proofs.parts.head.Statement.{statement}
-use Rattle.block.proofs.parts.head.Tie as tie
+use Rattle.affixes.specs.Affixes.{list, guarded, head}
+use Rattle.affixes.proofs.Layers.{stays-there, list-adds, guarded-adds}
+use Rattle.affixes.proofs.Chain.{ready, start-node, start-list, counted-node, at, first-stops, second-stops, group-last, shares-later}
+use Rattle.affixes.proofs.head.Statement.{statement}
+use Rattle.affixes.proofs.head.Tie as tie
 
 list-requires : tie.Need-list-requires
 list-requires c κs = (c .before .before .before .before .before .pre .0, c .before .before .before .before .before .pre .1 .none, c .before .before .before .before .before .pre .2)
