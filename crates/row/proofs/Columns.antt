@@ -1,25 +1,19 @@
--- The laws of a row: its fields in columns, its remark, its mark.
+-- The laws of a row: its fields in columns, its mark.
 --     field-adds, fields-add     a field, and all fields
---     trim-within, ended-..      a row without a remark, and one with it
 --     marked-..                  a row by its label
 -- Assumes nothing.
-use Prim.Native.Nat.{ℕ, suc, _+_, _-_, _≤_, _<_}
+use Prim.Native.Nat.{ℕ, _+_, _-_, _≤_}
 use native.Mathlib.Omega.{arith}
-use mathlib.Core.Path.{_≡_, refl, ap, ap₂, _∙_, subst}
-use mathlib.Core.Bool.{Bool, true, false, _&&_}
+use mathlib.Core.Path.{_≡_, refl, ap, _∙_, subst}
 use mathlib.Core.List.{List, [], _∷_, _++_}
-use lib.ListN.{length, take, drop, replicate, length-take, length-drop}
-use lib.Dec.{eqb}
+use lib.ListN.{length, take, drop, replicate}
 use borrow.Author.Tests.{eq-eqb, ne-eqb}
-use Rattle.table.specs.Pick.{pick}
-use Rattle.table.specs.Document.{Doc, hardline, annotated, union}
-use Rattle.build.specs.Documents.{appendDoc}
+use Rattle.table.specs.Document.{Doc, annotated}
 use Rattle.pallets.specs.Lines.{indexOf, characters}
 use Rattle.pallets.specs.declared.Pallet.{Pallet}
 use Rattle.words.specs.Bytes.{Placed, Adds}
-use Rattle.row.specs.Fields.{field, right, fields, remark}
-use Rattle.words.specs.Words.{skipped, trimmed}
-use Rattle.row.specs.Documents.{besideDoc, belowDoc, endedDoc, markedDoc}
+use Rattle.row.specs.Fields.{field, right, fields}
+use Rattle.row.specs.Documents.{markedDoc}
 use Rattle.words.proofs.Placing.{place-adds, placed-length, then-adds}
 
 -- ---- fields
@@ -46,32 +40,6 @@ fields-add out line p size e note g blanks f {out₁} {r₁} a r₂ b force i ou
     let two = then-adds out out₁ out₁ note (replicate blanks 32) 0 r₁ r₂ (place-adds a) same b in
     let three = then-adds out out₁ out₂ (note ++ replicate blanks 32) (right force 4 (32 ∷ 103 ∷ [])) 0 r₂ r₃ two same d in
     subst (λ (m : List ℕ). Adds out 0 m out₃ r₄) is (then-adds out out₂ out₃ ((note ++ replicate blanks 32) ++ right force 4 (32 ∷ 103 ∷ [])) (right pluck 6 (32 ∷ 109 ∷ 109 ∷ [])) 0 r₃ r₄ three (l ∙ same) h)
-
--- ---- the remark
-
-pub trim-within : (s : List ℕ) → trimmed s ≤ length s
-unfolding trimmed
-trim-within [] = omega arith
-trim-within (b ∷ s) = go (eqb (trimmed s) 0 && eqb b 32) (trim-within s)
-  where
-    go : (t : Bool) → trimmed s ≤ length s → pick t 0 (suc (trimmed s)) ≤ suc (length s)
-    go true h = omega arith
-    go false h = omega arith
-
-module _ (row : Doc) (s : List ℕ) (from end start : ℕ) (e : end ≡ trimmed s) (f : start ≡ skipped s from) where
-  size : length (remark s from) ≡ end - start
-  size = simp (length-take, length-drop) (omega (arith, trim-within s))
-
-  pub ended-none : end ≤ start → appendDoc row hardline ≡ endedDoc row (remark s from)
-  unfolding endedDoc
-  ended-none h = let none : length (remark s from) ≡ 0 = omega (arith, size) in rw (eq-eqb (length (remark s from)) 0 none)
-
-  pub ended-some : start < end → union (besideDoc row (take (end - start) (drop start s))) (belowDoc row (take (end - start) (drop start s))) ≡ endedDoc row (remark s from)
-  unfolding endedDoc
-  ended-some h =
-      let some : length (remark s from) ≡ 0 → ⊥ = λ z. omega (arith, size) in
-      let is : take (end - start) (drop start s) ≡ remark s from = ap₂ (λ (a b : ℕ). take (a - b) (drop b s)) e f in
-      ap (λ (says : List ℕ). union (besideDoc row says) (belowDoc row says)) is ∙ rw (ne-eqb (length (remark s from)) 0 some)
 
 -- ---- the mark
 

@@ -1,7 +1,7 @@
--- Nothing is cut: 64 bytes have room for the fields of a line that is a row, and for a sentence with a number, 256 for a remark.
+-- Nothing is cut: 64 bytes have room for the fields of a line that is a row.
 --     few-bytes                a character has at most four bytes
 --     Sound, row-sound         what is known of a line that is a row
---     fields-fit, remark-fits, number-fits     the room that each takes
+--     fields-fit               the room that they take
 -- Assumes nothing.
 use Prim.Native.Nat.{ℕ, zero, suc, _+_, _-_, _*_, _≤_, _<_}
 use native.Mathlib.Omega.{arith}
@@ -197,7 +197,3 @@ module _ {s : List ℕ} {p : Pallet} (sound : Sound s p) where
       let force = right-size (drop (p .force) s) 4 (32 ∷ 103 ∷ []) (sound .force) in
       let pluck = right-size (drop (p .pluck) s) 6 (32 ∷ 109 ∷ 109 ∷ []) (omega (arith, sound .pluck)) in
       take-all 64 (fields s p) (simp (length-append, length-replicate) (omega (arith, sound .note)))
-
--- a remark, behind two blanks
-pub remark-fits : (says : List ℕ) → length says ≤ 200 → take 256 (32 ∷ 32 ∷ says) ≡ 32 ∷ 32 ∷ says
-remark-fits says h = take-all 256 (32 ∷ 32 ∷ says) (omega arith)

@@ -1,11 +1,9 @@
--- The bytes of a row: its fields in columns, between blanks, and its remark.
+-- The bytes of a row: its fields in columns, between blanks.
 use Prim.Native.Nat.{ℕ, _-_}
 use mathlib.Core.List.{List, [], _∷_, _++_}
 use lib.ListN.{take, drop, replicate}
 use Rattle.pallets.specs.Lines.{indexOf, characters}
-use Rattle.pallets.specs.Pallets.{between}
 use Rattle.pallets.specs.declared.Pallet.{Pallet}
-use Rattle.words.specs.Words.{skipped, trimmed}
 
 -- what stands before the first `;`
 abbrev pub field : List ℕ → List ℕ
@@ -21,7 +19,3 @@ fields line p =
     field line ++ replicate (6 - characters (field line)) 32
     ++ right (drop (p .force) line) 4 (32 ∷ 103 ∷ [])
     ++ right (drop (p .pluck) line) 6 (32 ∷ 109 ∷ 109 ∷ [])
-
--- what stands from a place on, without the blanks around it
-abbrev pub remark : List ℕ → ℕ → List ℕ
-remark s from = between s (skipped s from) (trimmed s)

@@ -16,7 +16,8 @@ use Rattle.pallets.specs.Standing.{standing, standingOf, rowCount, outNotes}
 use Rattle.row.specs.Fields.{right, fields}
 use Rattle.words.specs.Words.{blanks, trimmed, togetherOn, wordsOn}
 use Rattle.words.specs.Documents.{filledDoc}
-use Rattle.row.specs.Documents.{besideDoc, lowerDoc, belowDoc, endedDoc, markedDoc, rowDoc}
+use Rattle.remark.specs.Documents.{besideDoc, lowerDoc, belowDoc, endedDoc}
+use Rattle.row.specs.Documents.{markedDoc, rowDoc}
 use Rattle.rows.specs.Documents.{saysDoc, partDoc, linesDoc, sheetDoc}
 use Rattle.footer.specs.Documents.{headedDoc, toldDoc, footerDoc}
 

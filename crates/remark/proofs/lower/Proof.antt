@@ -1,10 +1,10 @@
--- `row::lower` meets its contract. Assumes nothing.
+-- `remark::lower` meets its contract. Assumes nothing.
 use mathlib.Core.Path.{_∙_}
 use borrow.Author.Needs.{needs}
 use Rattle.words.proofs.Chain.{new, kept, after, refused, nests, appends}
-use Rattle.row.specs.Documents.{lowerDoc}
-use Rattle.row.proofs.lower.Statement.{statement}
-use Rattle.row.proofs.lower.Tie as tie
+use Rattle.remark.specs.Documents.{lowerDoc}
+use Rattle.remark.proofs.lower.Statement.{statement}
+use Rattle.remark.proofs.lower.Tie as tie
 
 filled-requires : tie.Need-filled-requires
 filled-requires c κs = tt

@@ -1,12 +1,12 @@
--- `row::ended` meets its contract. Assumes nothing.
+-- `remark::ended` meets its contract. Assumes nothing.
 use borrow.Author.Needs.{needs}
 use native.Mathlib.Omega.{arith}
 use lib.ListN.{length-take, length-drop}
 use mathlib.Core.Path.{refl}
 use Rattle.words.proofs.Chain.{gives, appends}
-use Rattle.row.proofs.Columns.{trim-within, ended-none, ended-some}
-use Rattle.row.proofs.ended.Statement.{statement}
-use Rattle.row.proofs.ended.Tie as tie
+use Rattle.remark.proofs.Remarks.{trim-within, ended-none, ended-some}
+use Rattle.remark.proofs.ended.Statement.{statement}
+use Rattle.remark.proofs.ended.Tie as tie
 
 trimmed-requires : tie.Need-trimmed-requires
 trimmed-requires c κs = tt

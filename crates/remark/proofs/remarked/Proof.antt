@@ -1,9 +1,9 @@
--- `row::remarked` meets its contract. Assumes nothing.
+-- `remark::remarked` meets its contract. Assumes nothing.
 use mathlib.Core.Path.{_∙_}
 use borrow.Author.Needs.{needs}
 use Rattle.words.proofs.Chain.{new, kept, shares-kept, after, refused, unites}
-use Rattle.row.proofs.remarked.Statement.{statement}
-use Rattle.row.proofs.remarked.Tie as tie
+use Rattle.remark.proofs.remarked.Statement.{statement}
+use Rattle.remark.proofs.remarked.Tie as tie
 
 beside-requires : tie.Need-beside-requires
 beside-requires c κs = c .before .before .before .before .before .pre

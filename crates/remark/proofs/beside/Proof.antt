@@ -1,14 +1,14 @@
--- `row::beside` meets its contract. Assumes nothing.
+-- `remark::beside` meets its contract. Assumes nothing.
 use borrow.Author.Needs.{needs}
 use native.Mathlib.Omega.{arith}
 use mathlib.Core.Path.{refl, ap, _∙_}
 use Rattle.words.proofs.Chain.{new, kept, after, refused, gives, joins}
 use Rattle.words.specs.Documents.{leafDoc}
-use Rattle.row.specs.Documents.{besideDoc}
+use Rattle.remark.specs.Documents.{besideDoc}
 use Rattle.words.proofs.Placing.{place-adds, written-at}
-use Rattle.row.proofs.Uncut.{remark-fits}
-use Rattle.row.proofs.beside.Statement.{statement}
-use Rattle.row.proofs.beside.Tie as tie
+use Rattle.remark.proofs.Remarks.{remark-fits}
+use Rattle.remark.proofs.beside.Statement.{statement}
+use Rattle.remark.proofs.beside.Tie as tie
 
 slice-aggregate-put : tie.Need-slice-aggregate-put
 slice-aggregate-put c = search needs

@@ -1,10 +1,10 @@
--- `row::below` meets its contract. Assumes nothing.
+-- `remark::below` meets its contract. Assumes nothing.
 use mathlib.Core.Path.{_∙_}
 use borrow.Author.Needs.{needs}
 use Rattle.words.proofs.Chain.{new, kept, after, refused, joins}
-use Rattle.row.specs.Documents.{belowDoc}
-use Rattle.row.proofs.below.Statement.{statement}
-use Rattle.row.proofs.below.Tie as tie
+use Rattle.remark.specs.Documents.{belowDoc}
+use Rattle.remark.proofs.below.Statement.{statement}
+use Rattle.remark.proofs.below.Tie as tie
 
 lower-requires : tie.Need-lower-requires
 lower-requires c κs = tt
