@@ -27,8 +27,9 @@ use Rattle.build.proofs.Means.{Makes, there, still, after, meaning, older-makes
 use Rattle.build.proofs.Compose.{docs-still}
 use Rattle.build.proofs.Promises.{promise}
 use Rattle.block.specs.declared.Block.{Block}
-use Rattle.block.specs.declared.Shared.{Shared}
-use Rattle.block.specs.Block.{bare, head, core, wraps, tail, alternative, unions, layouts, blockOf, sizesRight, operands, formatMade}
+use Rattle.affixes.specs.declared.Shared.{Shared}
+use Rattle.affixes.specs.Affixes.{bare, head, tail}
+use Rattle.block.specs.Block.{core, wraps, alternative, unions, layouts, blockOf, sizesRight, operands, formatMade}
 use Rattle.block.specs.Documents.{bareDoc, headDoc, tailDoc, coreDoc, wrapsDoc, alternativeDoc, unionsDoc, blockDoc}
 use Rattle.block.proofs.Layers.{below-take, below-drop}
 use Rattle.block.proofs.Meaning.{Stand, stand-still, below-still, bare-is, map-take, map-drop, map-length, head-makes, tail-makes, core-makes, wraps-makes}

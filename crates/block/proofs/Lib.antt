@@ -1,6 +1,5 @@
 -- The laws of the block layouts, with no code in sight.
 mod Layers
-mod Chain
 mod Steps
 mod Loops
 mod Splits

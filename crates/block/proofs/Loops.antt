@@ -25,12 +25,14 @@ use Rattle.build.proofs.Stand.{stands-counted, done}
 use Rattle.build.proofs.Joins.{Below, below-of, below-more}
 use Rattle.build.proofs.Only.{Adds, adds-then, union-adds}
 use Rattle.block.specs.declared.Block.{Block}
-use Rattle.block.specs.declared.Shared.{Shared}
+use Rattle.affixes.specs.declared.Shared.{Shared}
 use Rattle.block.specs.Block.{wrap, wraps, alternative, unions}
-use Rattle.block.specs.Run.{Ready, Bodied, Hand, Ran}
-use Rattle.block.proofs.Layers.{below-drop, of-below, stays-there, wrap-adds, wraps-adds, On, on-still, alternative-adds, unions-adds}
-use Rattle.block.proofs.Chain.{At, begin, ready, later, start-node, start-list, go, go-made, at, at-adds, stop, counted-node}
-use Rattle.block.proofs.Steps.{shares-later, bodied-later, two}
+use Rattle.affixes.specs.Run.{Ready, Ran}
+use Rattle.block.specs.Run.{Bodied, Hand}
+use Rattle.affixes.proofs.Layers.{of-below, stays-there}
+use Rattle.block.proofs.Layers.{below-drop, wrap-adds, wraps-adds, On, on-still, alternative-adds, unions-adds}
+use Rattle.affixes.proofs.Chain.{At, begin, ready, later, start-node, start-list, go, go-made, at, at-adds, stop, counted-node, shares-later, two}
+use Rattle.block.proofs.Steps.{bodied-later}
 
 -- a run that has come to its end
 pub ran-at : {c : Counts} {table text : List ℕ} (b : Built) {c₁ : Counts} {n₁ : NodeNo} {table₁ : List ℕ} → At c table text (b .sheet) c₁ table₁ → n₁ .0 ≡ b .node → Ran c table text b (Node c₁ n₁) table₁

@@ -18,8 +18,9 @@ use Rattle.build.proofs.Says.{nil-is}
 use Rattle.build.proofs.Means.{Makes, there, still, after, meaning, older-makes, nest-makes, append-makes}
 use Rattle.build.proofs.Compose.{docs-still, grouped-makes, concat-makes}
 use Rattle.block.specs.declared.Block.{Block}
-use Rattle.block.specs.declared.Shared.{Shared}
-use Rattle.block.specs.Block.{list, allNil, bare, guarded, nested, head, core, wrap, wraps, tail}
+use Rattle.affixes.specs.declared.Shared.{Shared}
+use Rattle.affixes.specs.Affixes.{list, allNil, bare, guarded, head, tail}
+use Rattle.block.specs.Block.{nested, core, wrap, wraps}
 use Rattle.block.specs.Documents.{allNilDoc, bareDoc, guardDoc, guardedDoc, headDoc, tailDoc, coreDoc, wrapDoc, wrapsDoc}
 
 -- ---- one layer

@@ -17,12 +17,15 @@ use Rattle.build.specs.Outcome.{outcome}
 use Rattle.build.specs.Constructors.{hasAll, appendMade}
 use Rattle.build.proofs.Only.{Adds, adds-then}
 use Rattle.block.specs.declared.Block.{Block}
-use Rattle.block.specs.declared.Shared.{Shared}
-use Rattle.block.specs.Block.{bare, head, core, wraps, tail, alternative}
-use Rattle.block.specs.Run.{Ready, Shares, Bodied, Hand, Ran}
-use Rattle.block.proofs.Layers.{of-below, below-take, below-drop, On, on-still, front-adds, middle-adds, wrapped-adds, back-adds, front-there, join-adds}
-use Rattle.block.proofs.Chain.{At, ready, go, go-made, at, stop, counted-node, counted-list}
-use Rattle.block.proofs.Steps.{shares-later, bodied-later, two}
+use Rattle.affixes.specs.declared.Shared.{Shared}
+use Rattle.affixes.specs.Affixes.{bare, head, tail}
+use Rattle.block.specs.Block.{core, wraps, alternative}
+use Rattle.affixes.specs.Run.{Ready, Shares, Ran}
+use Rattle.block.specs.Run.{Bodied, Hand}
+use Rattle.affixes.proofs.Layers.{of-below}
+use Rattle.block.proofs.Layers.{below-take, below-drop, On, on-still, front-adds, middle-adds, wrapped-adds, back-adds, front-there, join-adds}
+use Rattle.affixes.proofs.Chain.{At, ready, go, go-made, at, stop, counted-node, counted-list, shares-later, two}
+use Rattle.block.proofs.Steps.{bodied-later}
 use Rattle.block.proofs.Loops.{on-hand}
 
 -- a part from k on is what is left of the list

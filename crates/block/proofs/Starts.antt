@@ -21,12 +21,14 @@ use Rattle.build.proofs.Grow.{more-nodes}
 use Rattle.build.proofs.Joins.{Below, below-more, below-of}
 use Rattle.build.proofs.Only.{Adds, adds-then, nil-adds, fail-adds, flatAlt-adds}
 use Rattle.block.specs.declared.Block.{Block}
-use Rattle.block.specs.declared.Shared.{Shared}
+use Rattle.affixes.specs.declared.Shared.{Shared}
 use Rattle.block.specs.Block.{alternative, unions, layouts}
-use Rattle.block.specs.Run.{Ready, Hand, Even, Askable, Ran}
-use Rattle.block.proofs.Layers.{of-below, stays-there, stay-below, On, on-still, alternative-adds, unions-adds}
-use Rattle.block.proofs.Chain.{At, begin, ready, later, start-node, start-list, go, go-made, at, stop, counted-node}
-use Rattle.block.proofs.Steps.{bodied-later, two}
+use Rattle.affixes.specs.Run.{Ready, Ran}
+use Rattle.block.specs.Run.{Hand, Even, Askable}
+use Rattle.affixes.proofs.Layers.{of-below, stays-there, stay-below}
+use Rattle.block.proofs.Layers.{On, on-still, alternative-adds, unions-adds}
+use Rattle.affixes.proofs.Chain.{At, begin, ready, later, start-node, start-list, go, go-made, at, stop, counted-node, two}
+use Rattle.block.proofs.Steps.{bodied-later}
 
 abbrev sharedOf : ℕ → ℕ → Shared
 sharedOf none guard = record { none = record { 0 = none }; guard = record { 0 = guard } }

@@ -1,14 +1,12 @@
--- Core and an alternative, part by part, as the proof of the code asks for them.
---     ran-append                         Append as a run of one part
---     shares-later, bodied-later, two    what is there stays there
---     core-stop₁ .. core-last            guard, nest, suffixes, join
+-- Core, part by part, as the proof of the code asks for them.
+--     bodied-later               what is there stays there
+--     core-stop₁ .. core-last    guard, nest, suffixes, join
 -- Assumes nothing.
 use Prim.Native.Nat.{ℕ, _<_}
 use native.Mathlib.Omega.{arith}
 use mathlib.Core.Path.{_≡_, refl}
-use mathlib.Core.Bool.{Bool, true, _&&_}
+use mathlib.Core.Bool.{Bool, true}
 use mathlib.Core.List.{List}
-use borrow.Author.Tests.{lt-ltb}
 use Rattle.table.specs.declared.NodeNo.{NodeNo}
 use Rattle.build.specs.declared.Counts.{Counts}
 use Rattle.build.specs.declared.Why.{Why}
@@ -17,30 +15,21 @@ use Rattle.build.specs.declared.Made.the-variants.{Node, Refused}
 use Rattle.build.specs.Sheet.{Sheet, Built, counted}
 use Rattle.build.specs.Parts.{append}
 use Rattle.build.specs.Outcome.{outcome}
-use Rattle.build.specs.Constructors.{has, hasAll, appendMade}
+use Rattle.build.specs.Constructors.{hasAll, appendMade}
 use Rattle.build.proofs.Only.{Adds, adds-then, append-adds}
 use Rattle.block.specs.declared.Block.{Block}
-use Rattle.block.specs.declared.Shared.{Shared}
-use Rattle.block.specs.Block.{list, guarded, nested, core}
-use Rattle.block.specs.Run.{Ready, Shares, Bodied, Ran}
-use Rattle.block.proofs.Layers.{stays-there, stay-below, list-adds, guarded-adds, nested-adds}
-use Rattle.block.proofs.Chain.{At, ready, ran-made, later, start-node, start-list, go, go-made, at, stop, operand, counted-node, counted-list}
-
--- Append as a run of one part
-pub ran-append : {c : Counts} {table text : List ℕ} → Ready c table text → (n m : ℕ) → n < c .nodes → m < c .nodes → {r : Made} {table′ : List ℕ} → outcome r table′ text ≡ appendMade c table text n m → Ran c table text (append (counted c table text) n m) r table′
-ran-append {c} {table} {text} k n m h j o =
-    ran-made k (λ s. append s n m) (append-adds (counted c table text) n m (start-node k h) (start-node k j)) (rw (lt-ltb n (c .nodes) h, lt-ltb m (c .nodes) j) refl) refl o
+use Rattle.affixes.specs.declared.Shared.{Shared}
+use Rattle.affixes.specs.Affixes.{list, guarded}
+use Rattle.block.specs.Block.{nested, core}
+use Rattle.affixes.specs.Run.{Ready, Shares, Ran}
+use Rattle.block.specs.Run.{Bodied}
+use Rattle.affixes.proofs.Layers.{stays-there, stay-below, list-adds, guarded-adds}
+use Rattle.block.proofs.Layers.{nested-adds}
+use Rattle.affixes.proofs.Chain.{At, ready, later, start-node, start-list, go, go-made, at, stop, counted-node, counted-list, shares-later, two}
 
 module _ {c : Counts} {table text : List ℕ} {s : Sheet} {c₁ : Counts} {table₁ : List ℕ} (a : At c table text s c₁ table₁) where
-  pub shares-later : {sh : Shared} → Shares c sh → Shares c₁ sh
-  shares-later k = let l = later a in record { none = omega (arith, k .none); guard = omega (arith, k .guard) }
-
   pub bodied-later : {b : Block} → Bodied c b → Bodied c₁ b
   bodied-later k = let l = later a in record { body = omega (arith, k .body); amount = k .amount }
-
-  -- two operands that are there
-  pub two : (n m : ℕ) → n < s .counts .nodes → m < s .counts .nodes → has c₁ n && has c₁ m ≡ true
-  two n m h k = rw (operand a n h, operand a m k) refl
 
 -- ---- Core
 

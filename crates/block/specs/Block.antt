@@ -1,47 +1,24 @@
--- What a block layout adds, in document 01's order, said by what the constructors add.
+-- What a block layout adds, in document 01's order, said by what the constructors add; Head and Tail are affixes/specs/Affixes'.
 use Prim.Native.Nat.{ℕ, zero, suc}
 use mathlib.Core.Bool.{Bool, true, _&&_}
 use mathlib.Core.List.{List, [], _∷_}
 use lib.ListN.{length, take, drop}
-use lib.Dec.{eqb, ltb, leb}
+use lib.Dec.{eqb, leb}
 use Rattle.utf8.specs.Pick.{pick}
 use Rattle.build.specs.declared.Counts.{Counts}
 use Rattle.build.specs.declared.Why.the-variants.{Sizes}
 use Rattle.build.specs.declared.Made.the-variants.{Refused}
 use Rattle.build.specs.Sheet.{Sheet, Built, older}
-use Rattle.build.specs.Parts.{isNil, nil, append, group, flatAlt, nest, union, fail, concat}
+use Rattle.build.specs.Parts.{nil, append, group, flatAlt, nest, union, fail}
 use Rattle.build.specs.Outcome.{Outcome, outcome, made}
 use Rattle.build.specs.Constructors.{has, hasAll, nestRight}
+use Rattle.affixes.specs.declared.Shared.{Shared}
+use Rattle.affixes.specs.Affixes.{list, bare, guarded, head, tail}
 use Rattle.block.specs.declared.Block.{Block}
-use Rattle.block.specs.declared.Shared.{Shared}
-
--- a list joined by itself as `concat` does; an empty one is the shared Nil
-unfoldable pub list : Sheet → ℕ → List ℕ → Built
-list s none [] = older s none
-list s none (n ∷ ns) = concat s (n ∷ ns)
-
-unfoldable pub allNil : Sheet → List ℕ → Bool
-allNil s [] = true
-allNil s (n ∷ ns) = isNil s n && allNil s ns
-
--- more than one before, and every prefix a Nil node
-unfoldable pub bare : Sheet → List ℕ → Bool
-bare s before = ltb 1 (length before) && allNil s before
-
--- a node, joined to the guard if asked
-unfoldable pub guarded : Sheet → Shared → ℕ → Bool → Built
-guarded s sh n asked = pick asked (append s n (sh .guard .0)) (older s n)
 
 -- a node, nested by the amount if flagged
 unfoldable pub nested : Sheet → Block → ℕ → Bool → Built
 nested s b n flag = pick flag (nest s n (b .amount .0) (b .way)) (older s n)
-
--- a group of before's prefixes joined, then the guard if there is more than one
-unfoldable pub head : Sheet → Shared → List ℕ → Built
-head s sh before =
-    let joined = list s (sh .none .0) before in
-    let whole = guarded (joined .sheet) sh (joined .node) (ltb 1 (length before)) in
-    group (whole .sheet) (whole .node)
 
 -- body, joined to the guard if asked, nested by the amount, then after's suffixes
 unfoldable pub core : Sheet → Block → Shared → Bool → List ℕ → Built
@@ -65,13 +42,6 @@ wraps s b n (p ∷ ps) [] = older s n
 wraps s b n (p ∷ ps) (q ∷ qs) =
     let inner = wraps s b n ps qs in
     wrap (inner .sheet) b (inner .node) p q
-
--- a group of Core and before's suffixes
-unfoldable pub tail : Sheet → Shared → ℕ → List ℕ → Built
-tail s sh n before =
-    let suffixes = list s (sh .none .0) before in
-    let joined = append (suffixes .sheet) n (suffixes .node) in
-    group (joined .sheet) (joined .node)
 
 -- Head joined to Tail, where "before" is the first so many affixes
 unfoldable pub alternative : Sheet → Block → Shared → List ℕ → List ℕ → List Bool → ℕ → Built

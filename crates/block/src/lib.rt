@@ -1,5 +1,5 @@
 // The block layouts, over what the constructors promise. Each part is asked of them in document 01's order; parts.rt has an
-// alternative and its parts. `format` has no `requires`, and says its whole outcome by one definition, so one outcome is possible.
+// alternative and its Core, crate affixes Head and Tail. `format` has no `requires`, and says its whole outcome by one definition, so one outcome is possible.
 ghost use mathlib.Core.Path.{_≡_};
 ghost use mathlib.Core.Bool.{true};
 ghost use Prim.Native.Nat.{_+_, _-_, _<_, _≤_};
@@ -9,7 +9,9 @@ ghost use Rattle.build.specs.Sheet.{counted};
 ghost use Rattle.build.specs.Outcome.{outcome, made};
 ghost use Rattle.build.specs.Constructors.{nestRight};
 ghost use Rattle.block.specs.Block.{alternative, unions, layouts, blockOf, sizesRight, operands, least, formatMade};
-ghost use Rattle.block.specs.Run.{Ready, Hand, Even, Askable, Ran};
+ghost use Rattle.affixes.specs.Run.{Ready, Ran};
+ghost use Rattle.block.specs.Run.{Hand, Even, Askable};
+use affixes::Shared;
 use build::Asked;
 use build::Asks;
 use build::Counts;
@@ -26,12 +28,6 @@ pub struct Block {
     pub body: NodeNo,
     pub amount: Indent,
     pub way: u32,
-}
-
-// The Nil and the guard that all alternatives share.
-pub struct Shared {
-    pub none: NodeNo,
-    pub guard: NodeNo,
 }
 
 // The alternatives from `split` affixes before down to one, each in a union with what stands.

@@ -1,10 +1,3 @@
--- The laws of building a sheet, with no code in sight.
-mod Chain
-mod Placing
-mod Cutting
-mod Filling
-mod Columns
-mod Uncut
-mod Footing
+-- The laws of the whole sheet, with no code in sight.
 mod Sheets
 mod Sample

@@ -13,9 +13,13 @@ use Rattle.pallets.specs.Numbers.{digits, numberOf, tenthsAdd, tenthsOf}
 use Rattle.tolerance.specs.Tolerance.{labelOf}
 use Rattle.pallets.specs.Pallets.{cutsAt, fieldsOf, measured, palletOf, palletAt, said, parsed}
 use Rattle.tolerance.specs.Standing.{standing, standingOf, rowCount, outNotes}
-use Rattle.rows.specs.Bytes.{right, fields}
-use Rattle.rows.specs.Words.{blanks, trimmed, togetherOn, wordsOn}
-use Rattle.rows.specs.Documents.{filledDoc, besideDoc, lowerDoc, belowDoc, endedDoc, markedDoc, rowDoc, saysDoc, partDoc, headedDoc, toldDoc, footerDoc, linesDoc, sheetDoc}
+use Rattle.row.specs.Fields.{right, fields}
+use Rattle.words.specs.Words.{blanks, trimmed, togetherOn, wordsOn}
+use Rattle.words.specs.Documents.{filledDoc}
+use Rattle.remark.specs.Documents.{besideDoc, lowerDoc, belowDoc, endedDoc}
+use Rattle.row.specs.Documents.{markedDoc, rowDoc}
+use Rattle.rows.specs.Documents.{saysDoc, partDoc, linesDoc, sheetDoc}
+use Rattle.footer.specs.Documents.{headedDoc, toldDoc, footerDoc}
 
 -- "A;140;1.2;dull" and a line feed
 input : List ℕ

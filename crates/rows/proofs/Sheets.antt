@@ -1,5 +1,4 @@
--- The laws of the whole sheet: its shared nodes, its lines one after the other, its footer.
---     empty-valid              the empty table is valid
+-- The laws of the whole sheet: its lines one after the other, over the shared nodes.
 --     lines-next, count-next, no-lines     the line at a place, and those after it
 --     Lined, none-lined, one-lined, all-lined     the lines so far, with those to come
 --     begun, joined            what a caller has of an answer
@@ -9,7 +8,6 @@ use native.Mathlib.Omega.{arith}
 use mathlib.Core.Path.{_≡_, refl, sym, ap, _∙_, subst}
 use mathlib.Core.List.{List, [], _∷_, map}
 use lib.ListN.{length, take, drop}
-use Rattle.table.specs.Fault.{firstFault}
 use Rattle.table.specs.Document.{Doc, nil}
 use Rattle.table.specs.declared.NodeNo.{NodeNo}
 use Rattle.build.specs.declared.Counts.{Counts}
@@ -19,18 +17,15 @@ use Rattle.build.specs.Documents.{appendDoc, joinedDoc, concatDoc}
 use Rattle.build.specs.Promise.{Valid}
 use Rattle.pallets.specs.Lines.{indexOf, lines}
 use Rattle.pallets.proofs.Reading.{done, line-first}
-use Rattle.rows.specs.declared.Shared.{Shared}
-use Rattle.rows.specs.declared.Start.{Start}
-use Rattle.rows.specs.declared.Start.the-variants as start
+use Rattle.words.specs.declared.Shared.{Shared}
+use Rattle.words.specs.declared.start.Start.{Start}
+use Rattle.words.specs.declared.start.Start.the-variants as start
 use Rattle.rows.specs.declared.Lines.{Lines}
 use Rattle.rows.specs.declared.Lines.the-variants as all
 use Rattle.rows.specs.Documents.{partDoc, linesDoc}
-use Rattle.rows.specs.Build.{Is, Shares, Gives, Started, Joined}
-use Rattle.rows.proofs.Chain.{new, shares-kept}
-
-pub empty-valid : (table text : List ℕ) → Valid (record { nodes = 0; bytes = 0 }) table text
-unfolding firstFault
-empty-valid table text = refl
+use Rattle.words.specs.Build.{Is, Shares, Gives, Started}
+use Rattle.rows.specs.Build.{Joined}
+use Rattle.words.proofs.Chain.{new, shares-kept}
 
 -- ---- lines
 

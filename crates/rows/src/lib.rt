@@ -1,13 +1,16 @@
 // A chest's sheet, built by the constructors and the block layouts: headings and rows in order, then the footer, each ending in a Hardline.
-// Here: the sheet. texts.rt: texts; words.rt: words; row.rt: a row; footer.rt: the footer. No public function has a `requires`.
+// Here: the sheet; a row is crate row's, the footer crate footer's, and the words of a heading crate words'. `build` has no `requires`.
 ghost use Rattle.table.specs.Document as document;
-ghost use Rattle.table.specs.Document.{Doc, nil};
+ghost use Rattle.table.specs.Document.{Doc};
 ghost use Rattle.build.specs.Documents.{appendDoc};
 ghost use Rattle.build.specs.Promise.{Valid};
 ghost use Rattle.pallets.specs.Lines.{lines};
 ghost use Rattle.pallets.specs.Pallets.{parsed};
-ghost use Rattle.rows.specs.Documents.{filledDoc, saysDoc, partDoc, footerDoc};
-ghost use Rattle.rows.specs.Build.{Is, Shares, Gives, Started, Joined, Shows};
+ghost use Rattle.words.specs.Documents.{filledDoc};
+ghost use Rattle.rows.specs.Documents.{saysDoc, partDoc};
+ghost use Rattle.footer.specs.Documents.{footerDoc};
+ghost use Rattle.words.specs.Build.{Is, Shares, Gives};
+ghost use Rattle.rows.specs.Build.{Joined, Shows};
 use build::Counts;
 use build::Made;
 use build::Why;
@@ -15,28 +18,12 @@ use footer::footer;
 use pallets::Line;
 use row::row;
 use table::NodeNo;
-use texts::behind;
+use words::Shared;
 use words::WHOLE;
 use words::filled;
-
-mod footer;
-mod row;
-mod texts;
-mod words;
-
-// The nodes that all rows and the footer share.
-pub struct Shared {
-    none: NodeNo,
-    hardline: NodeNo,
-    line: NodeNo,
-    softline: NodeNo,
-}
-
-// The shared nodes, if there is room for them.
-enum Start {
-    Ready(Counts, Shared),
-    Full,
-}
+use words::start::Start;
+use words::start::share;
+use words::texts::behind;
 
 // All lines with how many they are, or the first that doesn't fit and why.
 enum Lines {
@@ -139,39 +126,6 @@ fn footed(
         return made;
     };
     c.append(table, text, n, last)
-}
-
-// The places to break that are shared beside these two nodes.
-fn breaks(c: Counts, table: &mut [u32], text: &mut [u8], none: NodeNo, hardline: NodeNo) -> Start
-    ensures { λ r. ⌜ (Valid c (now (table .entry)) (now (text .entry)) → Is c (now (table .entry)) (now (text .entry)) none nil → Is c (now (table .entry)) (now (text .entry)) hardline document.hardline → Started r (now (table .exit)) (now (text .exit))) ⌝ }
-{
-    let Made::Node(c, line) = c.line(table, text) else {
-        return Start::Full;
-    };
-    let Made::Node(c, softline) = c.group(table, text, line) else {
-        return Start::Full;
-    };
-    let shared = Shared {
-        none,
-        hardline,
-        line,
-        softline,
-    };
-    Start::Ready(c, shared)
-}
-
-// The nodes that all rows and the footer share, over an empty table and text.
-fn share(table: &mut [u32], text: &mut [u8]) -> Start
-    ensures { λ r. ⌜ (Started r (now (table .exit)) (now (text .exit))) ⌝ }
-{
-    let c = Counts { nodes: 0, bytes: 0 };
-    let Made::Node(c, none) = c.nil(table, text) else {
-        return Start::Full;
-    };
-    let Made::Node(c, hardline) = c.hardline(table, text) else {
-        return Start::Full;
-    };
-    breaks(c, table, text, none, hardline)
 }
 
 // The lines of the input and the footer, over the shared nodes.

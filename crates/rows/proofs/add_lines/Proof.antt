@@ -7,7 +7,7 @@ use lib.ListN.{length, drop}
 use Rattle.build.specs.Promise.{Valid}
 use Rattle.pallets.specs.Lines.{lines}
 use Rattle.pallets.proofs.Saying.{part-within}
-use Rattle.rows.specs.Build.{Shares}
+use Rattle.words.specs.Build.{Shares}
 use Rattle.rows.proofs.Sheets.{count-next, no-lines, Lined, none-lined, one-lined, all-lined}
 use Rattle.rows.proofs.add_lines.Statement.{statement}
 use Rattle.rows.proofs.add_lines.Tie as tie

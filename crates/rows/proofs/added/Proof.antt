@@ -7,7 +7,7 @@ use lib.ListN.{take}
 use lib.Seq.{length-take-le}
 use Rattle.pallets.specs.Pallets.{parsed}
 use Rattle.pallets.proofs.Saying.{body-within}
-use Rattle.rows.proofs.Chain.{new, kept, after, refused, gives, appends}
+use Rattle.words.proofs.Chain.{new, kept, after, refused, gives, appends}
 use Rattle.rows.specs.Documents.{saysDoc, partDoc}
 use Rattle.rows.proofs.added.Statement.{statement}
 use Rattle.rows.proofs.added.Tie as tie

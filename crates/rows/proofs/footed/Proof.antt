@@ -1,7 +1,7 @@
 -- `rows::footed` meets its contract. Assumes nothing.
 use mathlib.Core.Path.{_∙_}
 use borrow.Author.Needs.{needs}
-use Rattle.rows.proofs.Chain.{new, kept, after, refused, appends}
+use Rattle.words.proofs.Chain.{new, kept, after, refused, appends}
 use Rattle.rows.proofs.footed.Statement.{statement}
 use Rattle.rows.proofs.footed.Tie as tie
 

@@ -5,8 +5,9 @@ use mathlib.Core.List.{List}
 use Prim.Native.Nat.{ℕ}
 use Rattle.table.specs.Document.{hardline}
 use Rattle.build.specs.Documents.{appendDoc}
-use Rattle.rows.proofs.Chain.{given, gives}
-use Rattle.rows.specs.Documents.{filledDoc, saysDoc}
+use Rattle.words.proofs.Chain.{given, gives}
+use Rattle.words.specs.Documents.{filledDoc}
+use Rattle.rows.specs.Documents.{saysDoc}
 use Rattle.rows.proofs.part.Statement.{statement}
 use Rattle.rows.proofs.part.Tie as tie
 

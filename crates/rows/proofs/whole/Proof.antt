@@ -1,7 +1,7 @@
 -- `rows::whole` meets its contract. Assumes nothing.
 use mathlib.Core.Path.{_∙_}
 use borrow.Author.Needs.{needs}
-use Rattle.rows.proofs.Chain.{new}
+use Rattle.words.proofs.Chain.{new}
 use Rattle.rows.specs.Documents.{sheetDoc}
 use Rattle.rows.proofs.Sheets.{joined}
 use Rattle.rows.proofs.whole.Statement.{statement}

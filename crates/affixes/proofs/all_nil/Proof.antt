@@ -1,0 +1,62 @@
+-- `all_nil`: every one is a Nil.
+use borrow.Author.Needs.{needs}
+use mathlib.Core.Path.{_≡_, refl, sym, _∙_}
+use native.Mathlib.Omega.{arith}
+use Prim.Native.Nat.{_-_, _≤_}
+use lib.ListN.{length, drop}
+use Rattle.build.specs.Sheet.{counted}
+use Rattle.affixes.specs.Affixes.{allNil}
+use Rattle.affixes.proofs.Layers.{nil-next, nil-not, nil-end}
+use Rattle.affixes.proofs.all_nil.Statement.{statement}
+use Rattle.affixes.proofs.all_nil.Tie as tie
+
+abbrev Inv-loop : tie.InvT-loop
+Inv-loop c table text nodes i₀ i = (i ≤ length nodes) × (allNil (counted c table text) nodes ≡ allNil (counted c table text) (drop i nodes))
+
+abbrev μ-loop : tie.MeasureT-loop
+μ-loop c table text nodes i₀ i = length nodes - i
+
+loop-holds : tie.Need-loop-holds Inv-loop μ-loop
+loop-holds c = (omega arith, refl)
+
+mul-t6 : tie.Need-mul-t6 Inv-loop μ-loop
+mul-t6 c = search needs
+
+shared-slice-read-t10 : tie.Need-shared-slice-read-t10 Inv-loop μ-loop
+shared-slice-read-t10 c = search needs
+
+is-nil-requires : tie.Need-is-nil-requires Inv-loop μ-loop
+is-nil-requires c κs = search needs
+
+add-i : tie.Need-add-i Inv-loop μ-loop
+add-i c = search needs
+
+loop-less : tie.Need-loop-less Inv-loop μ-loop
+loop-less c = search needs
+
+loop-again : tie.Need-loop-again Inv-loop μ-loop
+unfolding counted
+loop-again c = (omega arith, c .before .before .before .before .loop .inv .1 ∙ nil-next (counted (c .before .before .before .before .before .before .before .before .args .c) (c .before .before .before .before .before .before .before .before .args .table .now) (c .before .before .before .before .before .before .before .before .args .text .now)) (c .before .before .before .before .before .before .before .before .args .nodes .now) (c .before .before .before .before .loop .i) (c .before .before .before .loop-test .taken) (sym (c .before .is-nil .ensures) ∙ c .if1 .taken))
+
+returns : tie.Need-returns Inv-loop μ-loop
+unfolding counted
+returns c = sym (c .before .before .before .before .loop .inv .1 ∙ nil-not (counted (c .before .before .before .before .before .before .before .before .args .c) (c .before .before .before .before .before .before .before .before .args .table .now) (c .before .before .before .before .before .before .before .before .args .text .now)) (c .before .before .before .before .before .before .before .before .args .nodes .now) (c .before .before .before .before .loop .i) (c .before .before .before .loop-test .taken) (sym (c .before .is-nil .ensures) ∙ c .if1 .left))
+
+returns-2 : tie.Need-returns-2 Inv-loop μ-loop
+returns-2 c = sym (c .before .loop .inv .1 ∙ nil-end (counted (c .before .before .before .before .before .args .c) (c .before .before .before .before .before .args .table .now) (c .before .before .before .before .before .args .text .now)) (c .before .before .before .before .before .args .nodes .now) (c .before .loop .i) (c .loop-test .left))
+
+pub all-nil-spec : {M : Type 1} → statement M
+all-nil-spec =
+    tie.close
+    (tie.spec
+    Inv-loop
+    μ-loop
+    loop-holds
+    mul-t6
+    shared-slice-read-t10
+    is-nil-requires
+    add-i
+    loop-less
+    loop-again
+    returns
+    returns-2)

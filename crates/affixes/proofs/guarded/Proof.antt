@@ -1,0 +1,23 @@
+-- `guarded`: joined to the guard, or as it is.
+use borrow.Author.Needs.{needs}
+use Rattle.affixes.specs.Affixes.{guarded}
+use Rattle.affixes.proofs.Chain.{ran-older, ran-append}
+use Rattle.affixes.proofs.guarded.Statement.{statement}
+use Rattle.affixes.proofs.guarded.Tie as tie
+
+append-requires : tie.Need-append-requires
+append-requires c κs = search needs
+
+same-length : tie.Need-same-length
+same-length c = search needs
+
+returns : tie.Need-returns
+unfolding guarded
+returns c = rw (c .before .before .before .before .if1 .taken) (ran-append (c .before .before .before .before .before .before .before .before .pre .0) (c .before .before .before .before .before .before .before .before .args .n .0) (c .before .before .before .before .before .before .before .before .args .shared .guard .0) (c .before .before .before .before .before .before .before .before .pre .2) (c .before .before .before .before .before .before .before .before .pre .1 .guard) (c .before .before .append .ensures))
+
+returns-2 : tie.Need-returns-2
+unfolding guarded
+returns-2 c = rw (c .if1 .left) (ran-older (c .before .before .before .before .pre .0) (c .before .before .before .before .args .n))
+
+pub guarded-spec : {M : Type 1} → statement M
+guarded-spec = tie.close (tie.spec append-requires same-length returns returns-2)

@@ -1,0 +1,3 @@
+-- The laws of the footer, with no code in sight.
+mod Digits
+mod Footing

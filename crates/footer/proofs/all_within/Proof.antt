@@ -1,0 +1,108 @@
+-- `footer::all_within` meets its contract. Assumes nothing.
+use borrow.Author.Needs.{needs}
+use native.Mathlib.Omega.{arith}
+use mathlib.Core.Path.{refl, ap, _∙_}
+use Rattle.words.proofs.Chain.{gives}
+use Rattle.words.specs.Documents.{leafDoc}
+use Rattle.footer.specs.Documents.{allText, withinText}
+use Rattle.words.proofs.Placing.{placed-length}
+use Rattle.footer.proofs.Footing.{said-of-all, within-one, within-all}
+use Rattle.footer.proofs.all_within.Statement.{statement}
+use Rattle.footer.proofs.all_within.Tie as tie
+
+slice-aggregate-leaf : tie.Need-slice-aggregate-leaf
+slice-aggregate-leaf c = search needs
+
+leaf-requires : tie.Need-leaf-requires
+leaf-requires c κs = tt
+
+same-length : tie.Need-same-length
+same-length c = c .before .before .before .before .leaf .kept .1 .0
+
+same-length-2 : tie.Need-same-length-2
+same-length-2 c = c .before .before .before .before .leaf .kept .1 .1 .0
+
+returns : tie.Need-returns
+returns c = gives refl (within-one (c .before .before .before .before .before .before .before .before .before .before .before .args .rows) (c .before .before .before .before .before .before .before .before .if1 .taken)) (c .before .before .before .before .leaf .ensures)
+
+slice-aggregate-put-digits : tie.Need-slice-aggregate-put-digits
+slice-aggregate-put-digits c = search needs
+
+put-digits-requires : tie.Need-put-digits-requires
+put-digits-requires c κs = tt
+
+slice-aggregate-put : tie.Need-slice-aggregate-put
+slice-aggregate-put c = search needs
+
+slice-aggregate-put-2 : tie.Need-slice-aggregate-put-2
+slice-aggregate-put-2 c = search needs
+
+put-requires : tie.Need-put-requires
+put-requires c κs = search needs
+
+slice-aggregate-put-3 : tie.Need-slice-aggregate-put-3
+slice-aggregate-put-3 c = search needs
+
+slice-aggregate-behind : tie.Need-slice-aggregate-behind
+slice-aggregate-behind c = search needs
+
+behind-requires : tie.Need-behind-requires
+behind-requires c κs = tt
+
+put-requires-2 : tie.Need-put-requires-2
+put-requires-2 c κs = search needs
+
+slice-aggregate-put-4 : tie.Need-slice-aggregate-put-4
+slice-aggregate-put-4 c = search needs
+
+slice-aggregate-put-5 : tie.Need-slice-aggregate-put-5
+slice-aggregate-put-5 c = search needs
+
+put-requires-3 : tie.Need-put-requires-3
+put-requires-3 c κs = placed-length (c .before .before .before .put2 .ensures) (placed-length (c .before .before .before .before .before .before .before .before .put .ensures) (omega arith) .1) .1
+
+slice-aggregate-front : tie.Need-slice-aggregate-front
+slice-aggregate-front c = search needs
+
+front-requires : tie.Need-front-requires
+front-requires c κs = tt
+
+leaf-requires-2 : tie.Need-leaf-requires-2
+leaf-requires-2 c κs = tt
+
+same-length-3 : tie.Need-same-length-3
+same-length-3 c = c .before .before .before .before .leaf2 .kept .1 .0
+
+same-length-4 : tie.Need-same-length-4
+same-length-4 c = c .before .before .before .before .leaf2 .kept .1 .1 .0
+
+returns-2 : tie.Need-returns-2
+returns-2 c = gives refl (ap leafDoc (c .before .before .before .before .before .front .ensures ∙ said-of-all (c .before .before .before .before .before .before .before .before .before .before .before .before .before .before .before .before .before .before .before .before .before .before .before .before .before .before .before .before .args .rows) allText withinText _ (c .before .before .before .before .before .before .before .before .before .before .before .before .before .before .before .behind .ensures ∙ c .before .before .before .before .before .before .before .before .before .before .before .before .before .before .before .before .before .before .before .before .before .before .before .put-digits .ensures) (c .before .before .before .before .before .before .before .before .before .before .before .before .before .before .before .before .before .before .before .put .ensures) (c .before .before .before .before .before .before .before .before .before .before .before .before .before .before .put2 .ensures) (c .before .before .before .before .before .before .before .before .before .before .put3 .ensures) (omega arith)) ∙ within-all (c .before .before .before .before .before .before .before .before .before .before .before .before .before .before .before .before .before .before .before .before .before .before .before .before .before .before .before .before .args .rows) (c .before .before .before .before .before .before .before .before .before .before .before .before .before .before .before .before .before .before .before .before .before .before .before .before .before .if1 .left)) (c .before .before .before .before .leaf2 .ensures)
+
+pub all-within-spec : {M : Type 1} → statement M
+all-within-spec =
+    tie.close
+    (tie.spec
+    slice-aggregate-leaf
+    leaf-requires
+    same-length
+    same-length-2
+    returns
+    slice-aggregate-put-digits
+    put-digits-requires
+    slice-aggregate-put
+    slice-aggregate-put-2
+    put-requires
+    slice-aggregate-put-3
+    slice-aggregate-behind
+    behind-requires
+    put-requires-2
+    slice-aggregate-put-4
+    slice-aggregate-put-5
+    put-requires-3
+    slice-aggregate-front
+    front-requires
+    leaf-requires-2
+    same-length-3
+    same-length-4
+    returns-2)

@@ -1,0 +1,94 @@
+-- `footer::blocked` meets its contract. Assumes nothing.
+use borrow.Author.Needs.{needs}
+use mathlib.Core.Path.{refl, _∙_}
+use Rattle.words.proofs.Chain.{new, kept, after, refused, appends}
+use Rattle.footer.proofs.Footing.{blocks}
+use Rattle.footer.specs.Documents.{headedDoc}
+use Rattle.footer.proofs.blocked.Statement.{statement}
+use Rattle.footer.proofs.blocked.Tie as tie
+
+append-requires : tie.Need-append-requires
+append-requires c κs = tt
+
+enum-known-made : tie.Need-enum-known-made
+enum-known-made c = search needs
+
+enum-told : tie.Need-enum-told
+enum-told c = search needs
+
+same-length : tie.Need-same-length
+same-length c = c .before .before .before .before .append .kept .1 .0
+
+same-length-2 : tie.Need-same-length-2
+same-length-2 c = refl
+
+returns : tie.Need-returns
+returns c = λ d s i. refused (c .enum-told .given .1)
+
+slice-aggregate-leaf : tie.Need-slice-aggregate-leaf
+slice-aggregate-leaf c = search needs
+
+leaf-requires : tie.Need-leaf-requires
+leaf-requires c κs = tt
+
+enum-known-made-2 : tie.Need-enum-known-made-2
+enum-known-made-2 c = search needs
+
+enum-told-2 : tie.Need-enum-told-2
+enum-told-2 c = search needs
+
+same-length-3 : tie.Need-same-length-3
+same-length-3 c = c .before .before .before .before .before .before .leaf .kept .1 .0 ∙ c .before .before .before .before .before .before .before .before .before .before .before .before .before .before .before .append .kept .1 .0
+
+same-length-4 : tie.Need-same-length-4
+same-length-4 c = c .before .before .before .before .before .before .leaf .kept .1 .1 .0
+
+returns-2 : tie.Need-returns-2
+returns-2 c = λ d s i. refused (c .enum-told2 .given .1)
+
+slice-aggregate-format : tie.Need-slice-aggregate-format
+slice-aggregate-format c = search needs
+
+slice-aggregate-format-2 : tie.Need-slice-aggregate-format-2
+slice-aggregate-format-2 c = search needs
+
+slice-aggregate-format-3 : tie.Need-slice-aggregate-format-3
+slice-aggregate-format-3 c = search needs
+
+format-requires : tie.Need-format-requires
+format-requires c κs = tt
+
+same-length-5 : tie.Need-same-length-5
+same-length-5 c = c .before .before .format .kept .1 .1 .0 ∙ c .before .before .before .before .before .before .before .before .before .before .before .before .before .before .before .leaf .kept .1 .0 ∙ c .before .before .before .before .before .before .before .before .before .before .before .before .before .before .before .before .before .before .before .before .before .before .before .before .append .kept .1 .0
+
+same-length-6 : tie.Need-same-length-6
+same-length-6 c = c .before .before .before .before .before .before .before .before .before .before .before .before .before .before .before .leaf .kept .1 .1 .0
+
+returns-3 : tie.Need-returns-3
+unfolding headedDoc
+returns-3 c = λ d s i. after (appends (s .line) i (c .before .before .before .before .before .before .before .before .before .before .before .before .before .before .before .before .before .before .before .before .before .before .before .before .append .ensures)) (c .before .before .before .before .before .before .before .before .before .before .before .before .before .before .before .before .before .before .before .before .made .given .1) (λ b. after (c .before .before .before .before .before .before .before .before .before .before .before .before .before .before .before .leaf .ensures) (c .before .before .before .before .before .before .before .before .before .made2 .given .1) (λ q. blocks (kept q (new b)) (new q) (kept q (kept b (s .none))) _ refl (c .before .before .format .ensures)))
+
+pub blocked-spec : {M : Type 1} → statement M
+blocked-spec =
+    tie.close
+    (tie.spec
+    append-requires
+    enum-known-made
+    enum-told
+    same-length
+    same-length-2
+    returns
+    slice-aggregate-leaf
+    leaf-requires
+    enum-known-made-2
+    enum-told-2
+    same-length-3
+    same-length-4
+    returns-2
+    slice-aggregate-format
+    slice-aggregate-format-2
+    slice-aggregate-format-3
+    format-requires
+    same-length-5
+    same-length-6
+    returns-3)

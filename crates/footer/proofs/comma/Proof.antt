@@ -1,0 +1,55 @@
+-- `footer::comma` meets its contract. Assumes nothing.
+use mathlib.Core.Path.{_∙_}
+use borrow.Author.Needs.{needs}
+use Rattle.words.proofs.Chain.{new, kept, after, refused, appends}
+use Rattle.footer.proofs.comma.Statement.{statement}
+use Rattle.footer.proofs.comma.Tie as tie
+
+slice-aggregate-leaf : tie.Need-slice-aggregate-leaf
+slice-aggregate-leaf c = search needs
+
+leaf-requires : tie.Need-leaf-requires
+leaf-requires c κs = tt
+
+enum-known-made : tie.Need-enum-known-made
+enum-known-made c = search needs
+
+enum-told : tie.Need-enum-told
+enum-told c = search needs
+
+same-length : tie.Need-same-length
+same-length c = c .before .before .before .before .before .before .leaf .kept .1 .0
+
+same-length-2 : tie.Need-same-length-2
+same-length-2 c = c .before .before .before .before .before .before .leaf .kept .1 .1 .0
+
+returns : tie.Need-returns
+returns c = λ i. refused (c .enum-told .given .1)
+
+append-requires : tie.Need-append-requires
+append-requires c κs = tt
+
+same-length-3 : tie.Need-same-length-3
+same-length-3 c = c .before .before .append .kept .1 .0 ∙ c .before .before .before .before .before .before .before .before .before .before .before .before .leaf .kept .1 .0
+
+same-length-4 : tie.Need-same-length-4
+same-length-4 c = c .before .before .before .before .before .before .before .before .before .before .before .before .leaf .kept .1 .1 .0
+
+returns-2 : tie.Need-returns-2
+returns-2 c = λ i. after (c .before .before .before .before .before .before .before .before .before .before .before .before .leaf .ensures) (c .before .before .before .before .before .before .made .given .1) (λ b. appends (new b) (kept b i) (c .before .before .append .ensures))
+
+pub comma-spec : {M : Type 1} → statement M
+comma-spec =
+    tie.close
+    (tie.spec
+    slice-aggregate-leaf
+    leaf-requires
+    enum-known-made
+    enum-told
+    same-length
+    same-length-2
+    returns
+    append-requires
+    same-length-3
+    same-length-4
+    returns-2)

@@ -1,0 +1,75 @@
+-- `footer::named` meets its contract. Assumes nothing.
+use mathlib.Core.Path.{_∙_}
+use borrow.Author.Needs.{needs}
+use Rattle.words.proofs.Chain.{new, kept, shares-kept, after, refused}
+use Rattle.footer.proofs.named.Statement.{statement}
+use Rattle.footer.proofs.named.Tie as tie
+
+comma-requires : tie.Need-comma-requires
+comma-requires c κs = tt
+
+enum-known-made : tie.Need-enum-known-made
+enum-known-made c = search needs
+
+enum-told : tie.Need-enum-told
+enum-told c = search needs
+
+same-length : tie.Need-same-length
+same-length c = c .before .before .before .before .before .before .comma .kept .1 .0
+
+same-length-2 : tie.Need-same-length-2
+same-length-2 c = c .before .before .before .before .before .before .comma .kept .1 .1 .0
+
+returns : tie.Need-returns
+returns c = λ s. refused (c .enum-told .given .1)
+
+notes-requires : tie.Need-notes-requires
+notes-requires c κs = tt
+
+enum-known-made-2 : tie.Need-enum-known-made-2
+enum-known-made-2 c = search needs
+
+enum-told-2 : tie.Need-enum-told-2
+enum-told-2 c = search needs
+
+same-length-3 : tie.Need-same-length-3
+same-length-3 c = c .before .before .before .before .before .before .notes .kept .1 .0 ∙ c .before .before .before .before .before .before .before .before .before .before .before .before .before .before .before .before .comma .kept .1 .0
+
+same-length-4 : tie.Need-same-length-4
+same-length-4 c = c .before .before .before .before .before .before .notes .kept .1 .1 .0 ∙ c .before .before .before .before .before .before .before .before .before .before .before .before .before .before .before .before .comma .kept .1 .1 .0
+
+returns-2 : tie.Need-returns-2
+returns-2 c = λ s. refused (c .enum-told2 .given .1)
+
+blocked-requires : tie.Need-blocked-requires
+blocked-requires c κs = tt
+
+same-length-5 : tie.Need-same-length-5
+same-length-5 c = c .before .before .before .before .blocked .kept .1 .0 ∙ c .before .before .before .before .before .before .before .before .before .before .before .before .before .before .notes .kept .1 .0 ∙ c .before .before .before .before .before .before .before .before .before .before .before .before .before .before .before .before .before .before .before .before .before .before .before .before .comma .kept .1 .0
+
+same-length-6 : tie.Need-same-length-6
+same-length-6 c = c .before .before .before .before .blocked .kept .1 .1 .0 ∙ c .before .before .before .before .before .before .before .before .before .before .before .before .before .before .notes .kept .1 .1 .0 ∙ c .before .before .before .before .before .before .before .before .before .before .before .before .before .before .before .before .before .before .before .before .before .before .before .before .comma .kept .1 .1 .0
+
+returns-3 : tie.Need-returns-3
+returns-3 c = λ s. after (c .before .before .before .before .before .before .before .before .before .before .before .before .before .before .before .before .before .before .before .before .before .before .before .before .comma .ensures (s .softline)) (c .before .before .before .before .before .before .before .before .before .before .before .before .before .before .before .before .before .before .made .given .1) (λ b. after (c .before .before .before .before .before .before .before .before .before .before .before .before .before .before .notes .ensures (kept b (s .none)) (new b)) (c .before .before .before .before .before .before .before .before .made2 .given .1) (λ q. c .before .before .before .before .blocked .ensures _ (shares-kept q (shares-kept b s)) (new q)))
+
+pub named-spec : {M : Type 1} → statement M
+named-spec =
+    tie.close
+    (tie.spec
+    comma-requires
+    enum-known-made
+    enum-told
+    same-length
+    same-length-2
+    returns
+    notes-requires
+    enum-known-made-2
+    enum-told-2
+    same-length-3
+    same-length-4
+    returns-2
+    blocked-requires
+    same-length-5
+    same-length-6
+    returns-3)

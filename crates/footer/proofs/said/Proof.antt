@@ -1,0 +1,45 @@
+-- `footer::said` meets its contract. Assumes nothing.
+use mathlib.Core.Path.{refl}
+use Rattle.pallets.specs.Lines.{lines}
+use Rattle.tolerance.specs.Standing.{outNotes}
+use Rattle.words.proofs.Chain.{gives}
+use Rattle.footer.proofs.Footing.{told-none, told-some}
+use Rattle.footer.proofs.said.Statement.{statement}
+use Rattle.footer.proofs.said.Tie as tie
+
+all-within-requires : tie.Need-all-within-requires
+all-within-requires c κs = tt
+
+same-length : tie.Need-same-length
+same-length c = c .before .before .before .before .all-within .kept .1 .0
+
+same-length-2 : tie.Need-same-length-2
+same-length-2 c = c .before .before .before .before .all-within .kept .1 .1 .0
+
+returns : tie.Need-returns
+returns c = λ s. let a = c .before .before .before .before .before .before .before .before .before .before .before .args in gives refl (told-none (a .rows) (outNotes (lines (a .input .now))) (a .out) (c .before .before .before .before .before .before .before .before .before .before .before .pre) (c .before .before .before .before .before .before .before .if1 .taken)) (c .before .before .before .before .all-within .ensures)
+
+named-requires : tie.Need-named-requires
+named-requires c κs = tt
+
+same-length-3 : tie.Need-same-length-3
+same-length-3 c = c .before .before .before .before .named .kept .1 .0
+
+same-length-4 : tie.Need-same-length-4
+same-length-4 c = c .before .before .before .before .named .kept .1 .1 .0
+
+returns-2 : tie.Need-returns-2
+returns-2 c = λ s. let a = c .before .before .before .before .before .before .before .before .before .before .before .args in gives refl (told-some (a .rows) (outNotes (lines (a .input .now))) (a .out) (c .before .before .before .before .before .before .before .before .before .before .before .pre) (c .before .before .before .before .before .before .before .if1 .left)) (c .before .before .before .before .named .ensures s)
+
+pub said-spec : {M : Type 1} → statement M
+said-spec =
+    tie.close
+    (tie.spec
+    all-within-requires
+    same-length
+    same-length-2
+    returns
+    named-requires
+    same-length-3
+    same-length-4
+    returns-2)

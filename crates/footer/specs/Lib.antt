@@ -1,0 +1,3 @@
+-- What the footer is: a number's digits, and its document.
+pub mod Digits
+pub mod Documents

@@ -1,0 +1,2 @@
+-- What a row with its remark is: its document.
+pub mod Documents

@@ -1,0 +1,3 @@
+-- The laws of a row, with no code in sight.
+mod Columns
+mod Uncut

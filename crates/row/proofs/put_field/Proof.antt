@@ -1,0 +1,43 @@
+-- `row::put_field` meets its contract. Assumes nothing.
+use borrow.Author.Needs.{needs}
+use Rattle.words.proofs.Placing.{placed-length}
+use Rattle.row.proofs.Columns.{field-adds}
+use Rattle.row.proofs.put_field.Statement.{statement}
+use Rattle.row.proofs.put_field.Tie as tie
+
+part-end-requires : tie.Need-part-end-requires
+part-end-requires c κs = tt
+
+missing-requires : tie.Need-missing-requires
+missing-requires c κs = tt
+
+further-requires : tie.Need-further-requires
+further-requires c κs = search needs
+
+front-requires : tie.Need-front-requires
+front-requires c κs = tt
+
+put-requires : tie.Need-put-requires
+put-requires c κs = search needs
+
+put-requires-2 : tie.Need-put-requires-2
+put-requires-2 c κs = placed-length (c .before .before .before .put .ensures) (c .before .before .before .before .before .before .further .ensures .1) .1
+
+same-length : tie.Need-same-length
+same-length c = search needs
+
+returns : tie.Need-returns
+returns c = let a = c .before .before .before .before .before .before .before .before .before .before .before .before .before .before .before .before .args in field-adds (a .out .now) (a .at) (a .s .now) (a .width) (a .unit .now) (c .before .before .before .before .before .before .before .before .before .before .before .before .part-end .result) (c .before .before .before .before .before .before .before .before .before .before .before .before .part-end .ensures) (c .before .before .before .before .before .before .before .before .before .before .before .missing .result) (c .before .before .before .before .before .before .before .before .before .before .before .missing .ensures) (c .before .before .before .before .before .before .before .before .before .further .result) (c .before .before .before .before .before .before .before .before .before .further .ensures) _ (c .before .before .before .before .before .before .before .front .ensures) (c .before .before .before .before .before .before .put .ensures) (c .before .before .put2 .ensures)
+
+pub put-field-spec : {M : Type 1} → statement M
+put-field-spec =
+    tie.close
+    (tie.spec
+    part-end-requires
+    missing-requires
+    further-requires
+    front-requires
+    put-requires
+    put-requires-2
+    same-length
+    returns)

@@ -1,0 +1,137 @@
+-- The laws of cutting a text into words.
+--     rest-is                     all from a place on
+--     blank-.., no-blanks         blanks at a place
+--     trim-..                     blanks at the end
+--     goes-on, words-end, word-on     where words end that stay together
+--     words-next, no-words        the next word, and the last
+-- Assumes nothing.
+use Prim.Native.Nat.{ℕ, zero, suc, _+_, _-_, _≤_, _<_}
+use native.Mathlib.Omega.{arith}
+use native.Mathlib.Numerals.{add-one}
+use mathlib.Core.Path.{_≡_, refl, sym, ap, _∙_}
+use mathlib.Core.Bool.{Bool, true, false, not, _&&_, _||_}
+use mathlib.Core.List.{List, [], _∷_, _++_}
+use lib.ListN.{length, getD, take, drop, length-drop}
+use lib.Seq.{take-all, take-suc, drop-drop, length-take-le}
+use lib.Dec.{eqb, ltb}
+use borrow.Author.Tests.{eq-eqb, ne-eqb, le-leb, lt-leb, lt-ltb, le-ltb, ltb-true, ltb-false}
+use Rattle.utf8.specs.Pick.{pick}
+use Rattle.pallets.specs.Lines.{goesOn}
+use Rattle.pallets.proofs.Reading.{more, done}
+use Rattle.words.specs.Words.{blanks, skipped, trimmed, ends, togetherOn, together, wordsOn}
+
+-- all from a place on
+pub rest-is : (s : List ℕ) (at : ℕ) → take (length s - at) (drop at s) ≡ drop at s
+rest-is s at = take-all (length s - at) (drop at s) (simp length-drop (omega arith))
+
+-- ---- blanks at a place
+
+module _ (s : List ℕ) (i : ℕ) (h : i < length s) where
+  pub blank-next : getD s i 0 ≡ 32 → blanks (drop i s) ≡ blanks (drop (i + 1) s) + 1
+  unfolding blanks
+  blank-next e = rw (more s i h, eq-eqb (getD s i 0) 32 e, add-one (blanks (drop (i + 1) s)))
+
+  pub blank-not : (getD s i 0 ≡ 32 → ⊥) → blanks (drop i s) ≡ 0
+  unfolding blanks
+  blank-not e = rw (more s i h, ne-eqb (getD s i 0) 32 e)
+
+pub no-blanks : (s : List ℕ) (i : ℕ) → length s ≤ i → blanks (drop i s) ≡ 0
+unfolding blanks
+no-blanks s i h = rw (done s i h)
+
+-- ---- blanks at the end
+
+last-blank : (xs : List ℕ) → trimmed (xs ++ (32 ∷ [])) ≡ trimmed xs
+unfolding trimmed
+last-blank [] = refl
+last-blank (x ∷ xs) = ap (λ (n : ℕ). pick (eqb n 0 && eqb x 32) 0 (suc n)) (last-blank xs)
+
+last-other : (xs : List ℕ) (b : ℕ) → (b ≡ 32 → ⊥) → trimmed (xs ++ (b ∷ [])) ≡ suc (length xs)
+unfolding trimmed
+last-other [] b e = rw (ne-eqb b 32 e)
+last-other (x ∷ xs) b e = ap (λ (n : ℕ). pick (eqb n 0 && eqb x 32) 0 (suc n)) (last-other xs b e) ∙ rw (ne-eqb (suc (length xs)) 0 (λ z. omega arith))
+
+module _ (s : List ℕ) (n : ℕ) (some : 0 < n) (h : n ≤ length s) where
+  split : take n s ≡ take (n - 1) s ++ (getD s (n - 1) 0 ∷ [])
+  split =
+      let e : n ≡ suc (n - 1) = omega arith in
+      ap (λ (k : ℕ). take k s) e ∙ take-suc s (n - 1) 0 (omega arith)
+
+  pub trim-here : (getD s (n - 1) 0 ≡ 32 → ⊥) → trimmed (take n s) ≡ n
+  trim-here e =
+      let size : length (take (n - 1) s) ≡ n - 1 = length-take-le (n - 1) s (omega arith) in
+      ap trimmed split ∙ last-other (take (n - 1) s) (getD s (n - 1) 0) e ∙ omega arith
+
+  pub trim-next : getD s (n - 1) 0 ≡ 32 → trimmed (take (n - 1) s) ≡ trimmed (take n s)
+  trim-next e = sym (ap trimmed split ∙ ap (λ (b : ℕ). trimmed (take (n - 1) s ++ (b ∷ []))) e ∙ last-blank (take (n - 1) s))
+
+pub trim-none : (s : List ℕ) (n : ℕ) → n ≤ 0 → n ≡ trimmed (take n s)
+unfolding trimmed
+trim-none s zero h = refl
+trim-none s (suc n) h = absurd (omega arith)
+
+-- ---- words that stay together
+
+-- a byte goes on with a character where it starts none
+pub starts-is : (b : ℕ) → goesOn b ≡ not (ltb b 128 || ltb 191 b)
+starts-is b = go (ltb b 128) (ltb 191 b) refl refl
+  where
+    go : (t u : Bool) → ltb b 128 ≡ t → ltb 191 b ≡ u → goesOn b ≡ not (t || u)
+    go true u e f = rw (lt-leb 128 b (ltb-true b 128 e))
+    go false true e f = rw (le-leb 128 b (ltb-false b 128 e), lt-leb b 191 (ltb-true 191 b f))
+    go false false e f = rw (le-leb 128 b (ltb-false b 128 e), le-leb b 191 (ltb-false 191 b f))
+
+-- the last blank is not past the place
+pub blank-after : (b i last : ℕ) → last ≤ i → pick (eqb b 32) i last ≤ i
+blank-after b i last h = go (eqb b 32)
+  where
+    go : (t : Bool) → pick t i last ≤ i
+    go true = omega arith
+    go false = h
+
+module _ (most wide last : ℕ) (s : List ℕ) (i : ℕ) (h : i < length s) where
+  pub goes-on : goesOn (getD s i 0) ≡ true → togetherOn most wide last i (drop i s) ≡ togetherOn most wide last (i + 1) (drop (i + 1) s)
+  unfolding togetherOn
+  goes-on e = rw (more s i h, e)
+
+  module _ (starts : goesOn (getD s i 0) ≡ false) (blank : ℕ) (is : blank ≡ pick (eqb (getD s i 0) 32) i last) where
+    pub words-end : true ≡ ends most wide (getD s i 0) → togetherOn most wide last i (drop i s) ≡ pick (ltb 0 blank) blank i
+    unfolding togetherOn
+    words-end e = rw (more s i h, starts, ← is, ← e)
+
+    pub word-on : false ≡ ends most wide (getD s i 0) → togetherOn most wide last i (drop i s) ≡ togetherOn most (wide + 1) blank (i + 1) (drop (i + 1) s)
+    unfolding togetherOn
+    word-on e = rw (more s i h, starts, ← is, ← e)
+
+-- at the last blank if there is one, else here
+pub at-blank : (last i : ℕ) → 0 < last → last ≡ pick (ltb 0 last) last i
+at-blank last i h = rw (lt-ltb 0 last h)
+
+pub at-none : (last i : ℕ) → last ≤ 0 → i ≡ pick (ltb 0 last) last i
+at-none last i h = rw (le-ltb 0 last h)
+
+pub all-together : (most wide last : ℕ) (s : List ℕ) (i : ℕ) → length s ≤ i → togetherOn most wide last i (drop i s) ≡ i
+unfolding togetherOn
+all-together most wide last s i h = rw (done s i h)
+
+-- ---- one word after the other
+
+word-first : (most n : ℕ) (s : List ℕ) → 0 < length s → wordsOn most (suc n) s ≡ take (together most s) s ∷ wordsOn most n (drop (skipped s (together most s)) s)
+unfolding wordsOn
+word-first most n [] h = absurd (omega arith)
+word-first most n (b ∷ s) h = refl
+
+pub words-next : (most left : ℕ) (s : List ℕ) (at size at′ : ℕ) → at < length s → 0 < left → size ≡ together most (drop at s) → at′ ≡ skipped s (at + size) → wordsOn most left (drop at s) ≡ take size (drop at s) ∷ wordsOn most (left - 1) (drop at′ s)
+words-next most left s at size at′ h some e e′ =
+    let t = drop at s in
+    let one : left ≡ suc (left - 1) = omega arith in
+    let behind : at + skipped t size ≡ at′ = ap (λ (l : List ℕ). at + (size + blanks l)) (drop-drop size at s) ∙ omega arith in
+    let rest : drop (skipped t size) t ≡ drop at′ s = drop-drop (skipped t size) at s ∙ ap (λ (k : ℕ). drop k s) behind in
+    ap (λ (k : ℕ). wordsOn most k t) one ∙ word-first most (left - 1) t (simp length-drop (omega arith))
+    ∙ ap (λ (k : ℕ). take k t ∷ wordsOn most (left - 1) (drop (skipped t k) t)) (sym e)
+    ∙ ap (λ (l : List ℕ). take size t ∷ wordsOn most (left - 1) l) rest
+
+pub no-words : (most n : ℕ) → wordsOn most n [] ≡ []
+unfolding wordsOn
+no-words most zero = refl
+no-words most (suc n) = refl

@@ -1,0 +1,75 @@
+-- `words::add_word` meets its contract. Assumes nothing.
+use mathlib.Core.Path.{refl, _∙_}
+use borrow.Author.Needs.{needs}
+use Rattle.words.proofs.Chain.{new, kept, after, refused, appends}
+use Rattle.words.proofs.add_word.Statement.{statement}
+use Rattle.words.proofs.add_word.Tie as tie
+
+append-requires : tie.Need-append-requires
+append-requires c κs = tt
+
+enum-known-made : tie.Need-enum-known-made
+enum-known-made c = search needs
+
+enum-told : tie.Need-enum-told
+enum-told c = search needs
+
+same-length : tie.Need-same-length
+same-length c = c .before .before .before .before .append .kept .1 .0
+
+same-length-2 : tie.Need-same-length-2
+same-length-2 c = refl
+
+returns : tie.Need-returns
+returns c = λ d e i j. refused (c .enum-told .given .1)
+
+leaf-requires : tie.Need-leaf-requires
+leaf-requires c κs = tt
+
+enum-known-made-2 : tie.Need-enum-known-made-2
+enum-known-made-2 c = search needs
+
+enum-told-2 : tie.Need-enum-told-2
+enum-told-2 c = search needs
+
+same-length-3 : tie.Need-same-length-3
+same-length-3 c = c .before .before .before .before .before .before .leaf .kept .1 .0 ∙ c .before .before .before .before .before .before .before .before .before .before .before .before .before .before .append .kept .1 .0
+
+same-length-4 : tie.Need-same-length-4
+same-length-4 c = c .before .before .before .before .before .before .leaf .kept .1 .1 .0
+
+returns-2 : tie.Need-returns-2
+returns-2 c = λ d e i j. refused (c .enum-told2 .given .1)
+
+append-requires-2 : tie.Need-append-requires-2
+append-requires-2 c κs = tt
+
+same-length-5 : tie.Need-same-length-5
+same-length-5 c = c .before .before .append2 .kept .1 .0 ∙ c .before .before .before .before .before .before .before .before .before .before .before .before .leaf .kept .1 .0 ∙ c .before .before .before .before .before .before .before .before .before .before .before .before .before .before .before .before .before .before .before .before .append .kept .1 .0
+
+same-length-6 : tie.Need-same-length-6
+same-length-6 c = c .before .before .before .before .before .before .before .before .before .before .before .before .leaf .kept .1 .1 .0
+
+returns-3 : tie.Need-returns-3
+returns-3 c = λ d e i j. after (appends i j (c .before .before .before .before .before .before .before .before .before .before .before .before .before .before .before .before .before .before .before .before .append .ensures)) (c .before .before .before .before .before .before .before .before .before .before .before .before .before .before .before .before .made .given .1) (λ b. after (c .before .before .before .before .before .before .before .before .before .before .before .before .leaf .ensures) (c .before .before .before .before .before .before .made2 .given .1) (λ w. appends (kept w (new b)) (new w) (c .before .before .append2 .ensures)))
+
+pub add-word-spec : {M : Type 1} → statement M
+add-word-spec =
+    tie.close
+    (tie.spec
+    append-requires
+    enum-known-made
+    enum-told
+    same-length
+    same-length-2
+    returns
+    leaf-requires
+    enum-known-made-2
+    enum-told-2
+    same-length-3
+    same-length-4
+    returns-2
+    append-requires-2
+    same-length-5
+    same-length-6
+    returns-3)

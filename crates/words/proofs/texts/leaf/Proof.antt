@@ -1,0 +1,32 @@
+-- `words::texts::leaf` meets its contract. Assumes nothing.
+use borrow.Author.Needs.{needs}
+use Rattle.words.proofs.Chain.{refused, writes}
+use mathlib.Core.Path.{refl}
+use Rattle.words.proofs.texts.leaf.Statement.{statement}
+use Rattle.words.proofs.texts.leaf.Tie as tie
+
+columns-requires : tie.Need-columns-requires
+columns-requires c κs = tt
+
+returns : tie.Need-returns
+returns c = refused refl
+
+cast-t12 : tie.Need-cast-t12
+cast-t12 c = search needs
+
+text-requires : tie.Need-text-requires
+text-requires c κs = tt
+
+same-length : tie.Need-same-length
+same-length c = c .before .before .before .before .text .kept .1 .0
+
+same-length-2 : tie.Need-same-length-2
+same-length-2 c = c .before .before .before .before .text .kept .1 .1 .0
+
+returns-2 : tie.Need-returns-2
+returns-2 c = writes (c .before .before .before .before .before .before .before .before .before .before .before .before .args .bytes .now) (c .before .before .before .before .before .before .before .before .columns .result) (c .before .before .before .before .before .before .before .before .columns .ensures) (c .before .before .before .before .text .ensures)
+
+pub leaf-spec : {M : Type 1} → statement M
+leaf-spec =
+    tie.close
+    (tie.spec columns-requires returns cast-t12 text-requires same-length same-length-2 returns-2)

@@ -1,0 +1,168 @@
+// Texts and words as nodes, for rows, headings and the footer of a sheet. Here: a text cut at its blanks and filled by softlines.
+// texts.rt: a Text of bytes, and bytes put into a row at a place; start.rt: the nodes that all share.
+ghost use mathlib.Core.Path.{_≡_};
+ghost use Prim.Native.Nat.{_<_, _≤_};
+ghost use lib.ListN.{length};
+ghost use Rattle.utf8.specs.Pick.{pick};
+ghost use lib.Dec.{eqb};
+ghost use Rattle.table.specs.Document.{Doc};
+ghost use Rattle.build.specs.Documents.{appendDoc};
+ghost use Rattle.words.specs.Words.{skipped, trimmed, ends, together};
+ghost use Rattle.words.specs.Documents.{leafDoc, filledDoc};
+ghost use Rattle.words.specs.Build.{Is, Shares, Gives};
+use build::Counts;
+use build::Made;
+use table::NodeNo;
+use texts::leaf;
+
+pub mod start;
+pub mod texts;
+
+// The nodes that all rows and the footer share.
+pub struct Shared {
+    pub none: NodeNo,
+    pub hardline: NodeNo,
+    pub line: NodeNo,
+    pub softline: NodeNo,
+}
+
+// How far a text is indented that goes below its row or heading, and how many of the strip's 42 columns that leaves.
+pub const BELOW: u32 = 4;
+
+pub const WRAPPED: usize = 38;
+
+// The columns of a text that is not indented.
+pub const WHOLE: usize = 42;
+
+// Words stay together up to so many columns: a place to break costs three nodes.
+const TOGETHER: usize = 12;
+
+// The next place from there on that is no blank.
+pub fn skip(s: &[u8], from: usize) -> usize
+    ensures { λ r. ⌜ r ≡ skipped (now (s .entry)) from ⌝ }
+{
+    let mut i = from;
+    while i < s.len() {
+        if s[i] != b' ' {
+            return i;
+        }
+        i += 1;
+    }
+    i
+}
+
+// Where the blanks at the end start.
+pub fn trimmed(s: &[u8]) -> usize
+    ensures { λ r. ⌜ r ≡ trimmed (now (s .entry)) ⌝ }
+{
+    let mut n = s.len();
+    while 0 < n {
+        if s[n - 1] != b' ' {
+            return n;
+        }
+        n -= 1;
+    }
+    n
+}
+
+// Whether no more goes into so many columns of words: they are enough and a blank follows, or they are all that there is room for.
+fn ends(wide: usize, b: u8, most: usize) -> bool
+    ensures { λ r. ⌜ r ≡ ends most wide b ⌝ }
+{
+    if most <= wide {
+        return true;
+    }
+    (TOGETHER <= wide) & (b == b' ')
+}
+
+// The last blank, after one byte more.
+fn last_blank(last: usize, i: usize, b: u8) -> usize
+    ensures { λ r. ⌜ r ≡ pick (eqb b 32) i last ⌝ }
+{
+    if b == b' ' {
+        return i;
+    }
+    last
+}
+
+// Where the words end that stay together: at a blank once they have enough columns; else, before they have more than
+// `most`, at the last blank, so that a word is cut only if it has no room on a line of its own.
+fn together(s: &[u8], most: usize) -> usize
+    requires { ⌜ 0 < length (now s) ⌝ }
+    ensures { λ r. ⌜ (r ≡ together most (now (s .entry))) × (0 < r) × (r ≤ length (now (s .entry))) ⌝ }
+{
+    let mut wide: usize = 1;
+    let mut last = 0;
+    let mut i = 1;
+    while i < s.len() {
+        let b = s[i];
+        let starts = (b < 128) | (191 < b);
+        if !starts {
+            i += 1;
+            continue;
+        }
+        last = last_blank(last, i, b);
+        if ends(wide, b, most) {
+            if 0 < last {
+                return last;
+            }
+            return i;
+        }
+        wide += 1;
+        i += 1;
+    }
+    i
+}
+
+// What stands, what comes between, and one Text more.
+pub fn add_word(
+    c: Counts,
+    table: &mut [u32],
+    text: &mut [u8],
+    n: NodeNo,
+    between: NodeNo,
+    bytes: &[u8],
+) -> Made
+    ensures { λ r. ⌜ ((d e : Doc) → Is c (now (table .entry)) (now (text .entry)) n d → Is c (now (table .entry)) (now (text .entry)) between e → Gives c (now (table .entry)) (now (text .entry)) r (now (table .exit)) (now (text .exit)) (appendDoc (appendDoc d e) (leafDoc (now (bytes .entry))))) ⌝ }
+{
+    let made = c.append(table, text, n, between);
+    let Made::Node(c, n) = made else {
+        return made;
+    };
+    let made = leaf(c, table, text, bytes);
+    let Made::Node(c, word) = made else {
+        return made;
+    };
+    c.append(table, text, n, word)
+}
+
+// The words of a text, filled by softlines on lines of so many columns; of none the shared Nil.
+pub fn filled(
+    c: Counts,
+    table: &mut [u32],
+    text: &mut [u8],
+    shared: Shared,
+    s: &[u8],
+    most: usize,
+) -> Made
+    ensures { λ r. ⌜ (Shares c (now (table .entry)) (now (text .entry)) shared → Gives c (now (table .entry)) (now (text .entry)) r (now (table .exit)) (now (text .exit)) (filledDoc most (now (s .entry)))) ⌝ }
+{
+    let softline = shared.softline;
+    let mut c = c;
+    let mut n = shared.none;
+    let mut between = n;
+    let mut at = skip(s, 0);
+    while at < s.len() {
+        let size = together(&s[at..], most);
+        let end = at + size;
+        let made = add_word(c, table, text, n, between, &s[at..end]);
+        let Made::Node(next, joined) = made else {
+            return made;
+        };
+        c = next;
+        n = joined;
+        between = softline;
+        at = skip(s, end);
+    }
+    Made::Node(c, n)
+}
