@@ -1,7 +1,7 @@
 -- Which of its cases a constructor takes: Append, Group, Nest and Text, by what they test. Assumes nothing.
 use Prim.Native.Nat.{ℕ}
 use mathlib.Core.Path.{_≡_, refl}
-use mathlib.Core.Bool.{true, false}
+use mathlib.Core.Bool.{_||_, true, false}
 use mathlib.Core.List.{List}
 use lib.ListN.{length}
 use lib.Dec.{eqb}
@@ -31,17 +31,13 @@ module _ (s : Sheet) (n : ℕ) where
   group-wraps e = rw e refl
 
   module _ (amount way : ℕ) where
-    pub nest-nil : isNil s n ≡ true → nest s n amount way ≡ older s n
+    pub nest-stays : isNil s n || eqb amount 0 ≡ true → nest s n amount way ≡ older s n
     unfolding nest
-    nest-nil e = rw e refl
+    nest-stays e = rw e refl
 
-    pub nest-zero : isNil s n ≡ false → eqb amount 0 ≡ true → nest s n amount way ≡ older s n
+    pub nest-wraps : isNil s n || eqb amount 0 ≡ false → nest s n amount way ≡ add s 4 n amount way
     unfolding nest
-    nest-zero e f = rw (e, f) refl
-
-    pub nest-wraps : isNil s n ≡ false → eqb amount 0 ≡ false → nest s n amount way ≡ add s 4 n amount way
-    unfolding nest
-    nest-wraps e f = rw (e, f) refl
+    nest-wraps e = rw e refl
 
 module _ (s : Sheet) (bytes : List ℕ) (columns : ℕ) where
   pub text-none : eqb (length bytes) 0 ≡ true → text s bytes columns ≡ nil s

@@ -1,4 +1,4 @@
--- Nest and Align, part by part: `hang`. Assumes nothing.
+-- Nest, by itself or with nodes behind it, and Nest and Align: `hang`. Assumes nothing.
 use Prim.Native.Nat.{ℕ, _+_, _/_, _≤_, _<_}
 use native.Mathlib.Omega.{arith}
 use native.Mathlib.Nat.{add-zero}
@@ -14,14 +14,15 @@ use Rattle.build.specs.declared.Counts.{Counts}
 use Rattle.build.specs.declared.Why.{Why}
 use Rattle.build.specs.declared.Made.{Made}
 use Rattle.build.specs.declared.Made.the-variants.{Node, Refused}
-use Rattle.build.specs.declared.Asked.the-variants.{Granted, Denied}
+use Rattle.build.specs.declared.Asked.{Asked}
 use Rattle.build.specs.Sheet.{Sheet, countsOf, counted, older, add}
 use Rattle.build.specs.Parts.{isNil, nest, align, hang}
 use Rattle.build.specs.Solid.{nestAdds}
-use Rattle.build.specs.Outcome.{asked, outcome}
+use Rattle.build.specs.Outcome.{asked, outcome, settled}
 use Rattle.build.specs.Constructors.{has, nestRight, nestMade, alignMade, hangMade}
 use Rattle.build.proofs.Grow.{Grown, same, add-grown, nest-grown, hang-grown}
-use Rattle.build.proofs.Stand.{Went, taken, refuse, Begun, begin, step, finish}
+use Rattle.build.proofs.Choices.{nest-stays, nest-wraps}
+use Rattle.build.proofs.Stand.{taken, refuse, settle, Begun, begin, step, first-went, finish, first-denied, first-granted}
 
 pub nest-counts : (s : Sheet) (n amount way : ℕ) → nest s n amount way .sheet .counts ≡ countsOf (s .counts .nodes + nestAdds (s .table) n amount) (s .counts .bytes)
 unfolding nest nestAdds
@@ -50,33 +51,58 @@ module _ (c : Counts) (table text : List ℕ) (n amount way : ℕ) where
   abbrev s₀ : Sheet
   s₀ = counted c table text
 
-  abbrev more : ℕ
-  more = nestAdds (s₀ .table) n amount
+  abbrev adds : ℕ
+  adds = nestAdds (s₀ .table) n amount
 
-  right-counts : c .nodes ≤ length table / 4 → c .bytes ≤ length text → has c n ≡ true → (hang s₀ n amount way .sheet .counts .nodes ≡ c .nodes + (more + 1)) × (hang s₀ n amount way .sheet .counts .bytes ≡ c .bytes + 0)
+  -- a Nest that is asked for with so many nodes behind it
+  abbrev pub nest-asked : ℕ → Asked
+  nest-asked nodes = asked c (length table) (length text) (has c n) (nestRight amount way) true (c .nodes + nodes) (c .bytes + 0)
+
+  module _ (more : ℕ) where
+    pub nest-kept : isNil s₀ n || eqb amount 0 ≡ true → settled (nest-asked more) (older s₀ n) table text ≡ settled (nest-asked (adds + more)) (nest s₀ n amount way) table text
+    nest-kept e =
+        let a : more ≡ adds + more = unfold nestAdds in rw e (omega arith) in
+        let b = sym (nest-stays s₀ n amount way e) in
+        λ i. settled (nest-asked (a i)) (b i) table text
+
+    pub nest-wrapped : isNil s₀ n || eqb amount 0 ≡ false → settled (nest-asked (1 + more)) (add s₀ 4 n amount way) table text ≡ settled (nest-asked (adds + more)) (nest s₀ n amount way) table text
+    nest-wrapped e =
+        let a : 1 + more ≡ adds + more = unfold nestAdds in rw e (omega arith) in
+        let b = sym (nest-wraps s₀ n amount way e) in
+        λ i. settled (nest-asked (a i)) (b i) table text
+
+  pub nest-alone : settled (nest-asked (adds + 0)) (nest s₀ n amount way) table text ≡ nestMade c table text n amount way
+  unfolding counted
+  nest-alone = settle c table text (has c n) (nestRight amount way) true (λ s. nest s n amount way) (c .nodes + (adds + 0)) (c .bytes + 0) counts
+    where
+      counts : c .nodes ≤ length table / 4 → c .bytes ≤ length text → has c n ≡ true → (nest s₀ n amount way .sheet .counts .nodes ≡ c .nodes + (adds + 0)) × (nest s₀ n amount way .sheet .counts .bytes ≡ c .bytes + 0)
+      counts h b p =
+          let e = nest-counts s₀ n amount way in
+          (omega (arith, ap (λ (x : Counts). x .nodes) e), ap (λ (x : Counts). x .bytes) e ∙ sym (add-zero (c .bytes)))
+
+  -- ---- and Align
+
+  right-counts : c .nodes ≤ length table / 4 → c .bytes ≤ length text → has c n ≡ true → (hang s₀ n amount way .sheet .counts .nodes ≡ c .nodes + (adds + 1)) × (hang s₀ n amount way .sheet .counts .bytes ≡ c .bytes + 0)
   unfolding counted
   right-counts h b p =
       let e = hang-counts s₀ n amount way in
       (ap (λ (x : Counts). x .nodes) e, ap (λ (x : Counts). x .bytes) e ∙ sym (add-zero (c .bytes)))
 
-  pub hang-refused : (why : Why) → asked c (length table) (length text) (has c n) (nestRight amount way) true (c .nodes + (more + 1)) (c .bytes + 0) ≡ Denied why → outcome (Refused why) table text ≡ hangMade c table text n amount way
-  hang-refused why d = refuse c table text (has c n) (nestRight amount way) true (λ s. hang s n amount way) _ _ right-counts why d
+  last : Grown (nest s₀ n amount way .sheet) (hang s₀ n amount way .sheet)
+  unfolding hang
+  last = add-grown (nest s₀ n amount way .sheet) 9 (nest s₀ n amount way .node) 0 0
 
-  module _ (granted : asked c (length table) (length text) (has c n) (nestRight amount way) true (c .nodes + (more + 1)) (c .bytes + 0) ≡ Granted) where
-    last : Grown (nest s₀ n amount way .sheet) (hang s₀ n amount way .sheet)
-    unfolding hang
-    last = add-grown (nest s₀ n amount way .sheet) 9 (nest s₀ n amount way .node) 0 0
+  module _ {m : Made} {table₁ text₁ : List ℕ} (o₁ : outcome m table₁ text₁ ≡ settled (nest-asked (adds + 1)) (nest s₀ n amount way) table text) where
+    pub hang-refused : {why : Why} → m ≡ Refused why → outcome m table₁ text₁ ≡ hangMade c table text n amount way
+    hang-refused e = first-denied (nest-asked (adds + 1)) (nest s₀ n amount way) table text o₁ (refuse c table text (has c n) (nestRight amount way) true (λ s. hang s n amount way) _ _ right-counts) e
 
-    begun : Begun c table text (has c n) (nestRight amount way) true (λ s. hang s n amount way)
-    begun = begin c table text (has c n) (nestRight amount way) true (λ s. hang s n amount way) (c .nodes + (more + 1)) (c .bytes + 0) right-counts (hang-grown s₀ n amount way) granted
-
-    pub hang-first : {m : Made} {table′ text′ : List ℕ} → outcome m table′ text′ ≡ nestMade c table text n amount way → Went table text (nest s₀ n amount way) m table′ text′
-    hang-first o = step begun (begun .stands) (λ s. nest s n amount way) (same s₀) (nest-grown s₀ n amount way) last (begun .facts .operands) (begun .facts .amounts) refl o
-
-    pub hang-last : {m : Made} {table₁ text₁ : List ℕ} → Went table text (nest s₀ n amount way) m table₁ text₁ → {c₁ : Counts} {n₁ : NodeNo} → m ≡ Node c₁ n₁ → {m₂ : Made} {table₂ text₂ : List ℕ} → outcome m₂ table₂ text₂ ≡ alignMade c₁ table₁ text₁ (n₁ .0) → outcome m₂ table₂ text₂ ≡ hangMade c table text n amount way
+    pub hang-made : {c₁ : Counts} {n₁ : NodeNo} → m ≡ Node c₁ n₁ → {m₂ : Made} {table₂ text₂ : List ℕ} → outcome m₂ table₂ text₂ ≡ alignMade c₁ table₁ text₁ (n₁ .0) → outcome m₂ table₂ text₂ ≡ hangMade c table text n amount way
     unfolding counted hang
-    hang-last went {c₁} {n₁} e o =
-        let t = taken went e in
+    hang-made {c₁} {n₁} e o =
+        let g = first-granted (nest-asked (adds + 1)) (nest s₀ n amount way) table text o₁ e in
+        let begun : Begun c table text (has c n) (nestRight amount way) true (λ s. hang s n amount way) =
+        begin c table text (has c n) (nestRight amount way) true (λ s. hang s n amount way) (c .nodes + (adds + 1)) (c .bytes + 0) right-counts (hang-grown s₀ n amount way) (g .0) in
+        let t = taken (first-went begun (nest s₀ n amount way) (nest-grown s₀ n amount way) last (g .1)) e in
         let o′ = rw (t .1) at o in
         let h = nest-present s₀ n amount way (ltb-true n (c .nodes) (begun .facts .operands)) in
         let present : has c₁ (nest s₀ n amount way .node) ≡ true = rw (t .0 .counts) (lt-ltb _ _ h) in

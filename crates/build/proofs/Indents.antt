@@ -22,14 +22,14 @@ use Rattle.build.specs.declared.Asked.the-variants.{Granted, Denied}
 use Rattle.build.specs.Sheet.{Sheet, Built, countsOf, counted, older, add, write}
 use Rattle.build.specs.Parts.{isNil, nil, text, append, hang, indent}
 use Rattle.build.specs.Solid.{nestAdds, indentAdds}
-use Rattle.build.specs.Outcome.{asked, outcome}
+use Rattle.build.specs.Outcome.{asked, outcome, onward}
 use Rattle.build.specs.Constructors.{has, nestRight, textMade, appendMade, hangMade, indentMade}
 use Rattle.build.proofs.Grow.{Whole, Grown, same, then, whole-grown, more-nodes, add-grown, write-grown, append-grown, text-grown, hang-grown}
 use Rattle.build.proofs.Words.{old-word, new-word, append-present}
 use Rattle.build.proofs.Choices.{append-left, append-right, append-both, text-none, text-some}
 use Rattle.build.proofs.Texts.{text-present}
 use Rattle.build.proofs.Hangs.{hang-counts}
-use Rattle.build.proofs.Stand.{start, Went, taken, refuse, Begun, begin, step, finish}
+use Rattle.build.proofs.Stand.{start, Went, gone, taken, refuse, Begun, begin, step, finish}
 
 -- ---- blanks
 
@@ -161,7 +161,7 @@ module _ (c : Counts) (table letters : List ℕ) (n by : ℕ) where
     old : n < c .nodes
     old = ltb-true n (c .nodes) (begun .facts .operands)
 
-    pub indent-first : {m : Made} {table′ letters′ : List ℕ} → outcome m table′ letters′ ≡ textMade c table letters (replicate by 32) by → Went table letters s₁ m table′ letters′
+    indent-first : {m : Made} {table′ letters′ : List ℕ} → outcome m table′ letters′ ≡ textMade c table letters (replicate by 32) by → Went table letters s₁ m table′ letters′
     indent-first o = step begun (begun .stands) (λ s. text s (replicate by 32) by) (same s₀) grown₁ (then grown₂ grown₃) refl refl (blanks-right by) o
 
     module _ {m : Made} {table₁ letters₁ : List ℕ} (went : Went table letters s₁ m table₁ letters₁) {c₁ : Counts} {n₁ : NodeNo} (e : m ≡ Node c₁ n₁) where
@@ -173,14 +173,14 @@ module _ (c : Counts) (table letters : List ℕ) (n by : ℕ) where
       unfolding counted
       there = let l = more-nodes grown₁ in let o = old in omega arith
 
-      pub indent-second : {m₂ : Made} {table₂ letters₂ : List ℕ} → outcome m₂ table₂ letters₂ ≡ appendMade c₁ table₁ letters₁ (n₁ .0) n → Went table letters s₂ m₂ table₂ letters₂
+      indent-second : {m₂ : Made} {table₂ letters₂ : List ℕ} → outcome m₂ table₂ letters₂ ≡ appendMade c₁ table₁ letters₁ (n₁ .0) n → Went table letters s₂ m₂ table₂ letters₂
       indent-second o =
           let t = taken went e in
           let o′ = rw (t .1) at o in
           let both : has c₁ (s₁ .node) && has c₁ n ≡ true = rw (t .0 .counts) (rw (lt-ltb _ _ blank, lt-ltb _ _ there) refl) in
           step begun (t .0) (λ s. append s (s₁ .node) n) grown₁ grown₂ grown₃ both refl refl o′
 
-      pub indent-last : {m₂ : Made} {table₂ letters₂ : List ℕ} → Went table letters s₂ m₂ table₂ letters₂ → {c₂ : Counts} {n₂ : NodeNo} → m₂ ≡ Node c₂ n₂ → {m₃ : Made} {table₃ letters₃ : List ℕ} → outcome m₃ table₃ letters₃ ≡ hangMade c₂ table₂ letters₂ (n₂ .0) by 0 → outcome m₃ table₃ letters₃ ≡ indentMade c table letters n by
+      indent-last : {m₂ : Made} {table₂ letters₂ : List ℕ} → Went table letters s₂ m₂ table₂ letters₂ → {c₂ : Counts} {n₂ : NodeNo} → m₂ ≡ Node c₂ n₂ → {m₃ : Made} {table₃ letters₃ : List ℕ} → outcome m₃ table₃ letters₃ ≡ hangMade c₂ table₂ letters₂ (n₂ .0) by 0 → outcome m₃ table₃ letters₃ ≡ indentMade c table letters n by
       unfolding indent
       indent-last went₂ {c₂} e₂ o =
           let t = taken went₂ e₂ in
@@ -188,3 +188,10 @@ module _ (c : Counts) (table letters : List ℕ) (n by : ℕ) where
           let present : has c₂ (s₂ .node) ≡ true = rw (t .0 .counts) (lt-ltb _ _ (append-present (s₁ .sheet) (s₁ .node) n blank there)) in
           let right : nestRight by 0 ≡ true = rw (le-leb by 1000 indent-by) refl in
           finish begun (step begun (t .0) (λ s. hang s (s₂ .node) by 0) (then grown₁ grown₂) grown₃ (same (indent s₀ n by .sheet)) present right refl o′)
+
+    pub indent-made : (m₁ : Made) (table₁ letters₁ : List ℕ) → outcome m₁ table₁ letters₁ ≡ textMade c table letters (replicate by 32) by → (m₂ : Made) (table₂ letters₂ : List ℕ) → outcome m₂ table₂ letters₂ ≡ onward m₁ table₁ letters₁ (λ c₁ n₁. appendMade c₁ table₁ letters₁ n₁ n)
+        → {m₃ : Made} {table₃ letters₃ : List ℕ} → outcome m₃ table₃ letters₃ ≡ onward m₂ table₂ letters₂ (λ c₂ n₂. hangMade c₂ table₂ letters₂ n₂ by 0) → outcome m₃ table₃ letters₃ ≡ indentMade c table letters n by
+    indent-made m₁ table₁ letters₁ o₁ m₂ table₂ letters₂ o₂ o₃ =
+        let w₁ = indent-first o₁ in
+        let w₂ = indent-second w₁ (w₁ .answer) (o₂ ∙ gone w₁ (λ c₁ n₁. appendMade c₁ table₁ letters₁ n₁ n)) in
+        indent-last w₁ (w₁ .answer) w₂ (w₂ .answer) (o₃ ∙ gone w₂ (λ c₂ n₂. hangMade c₂ table₂ letters₂ n₂ by 0))

@@ -2,6 +2,7 @@
 --     joined-counts   as many as are no Nil, but one, and no byte
 --     Along           a turn of the loop: what is left to join comes to the whole
 --     along-start, along-went, along-next, along-end
+--     joinAll         what the loop leaves: join-on a turn of it, join-whole all of it
 -- Assumes nothing.
 use Prim.Native.Nat.{ℕ, _+_, _-_, _≤_, _<_}
 use native.Mathlib.Omega.{arith}
@@ -14,11 +15,14 @@ use Rattle.table.specs.declared.NodeNo.{NodeNo}
 use Rattle.utf8.proofs.Tests.{and-true}
 use Rattle.build.specs.declared.Counts.{Counts}
 use Rattle.build.specs.declared.Made.{Made}
-use Rattle.build.specs.declared.Made.the-variants.{Node}
+use Rattle.build.specs.declared.Why.{Why}
+use Rattle.build.specs.declared.Made.the-variants.{Node, Refused}
+use Rattle.build.specs.declared.Asked.{Asked}
+use Rattle.build.specs.declared.Asked.the-variants.{Granted, Denied}
 use Rattle.build.specs.Sheet.{Sheet, Built, counted, older, add}
 use Rattle.build.specs.Parts.{isNil, append, joined}
 use Rattle.build.specs.Solid.{solid}
-use Rattle.build.specs.Outcome.{outcome, made}
+use Rattle.build.specs.Outcome.{Outcome, outcome, onward, answered, made}
 use Rattle.build.specs.Constructors.{has, hasAll, appendMade}
 use Rattle.build.proofs.Grow.{Whole, Grown, same, then, whole-grown, more-nodes, add-grown, append-grown, joined-grown}
 use Rattle.build.proofs.Words.{old-word, new-word, append-present}
@@ -133,3 +137,37 @@ module _ {c₀ : Counts} {table₀ text₀ : List ℕ} {present amount right : B
         answer = ap (λ (b : Built). Node (b .sheet .counts) (record { 0 = b .node })) (a .ends);
         stands = subst (λ (b : Built). Stands table₀ text₀ (b .sheet) (b .sheet .counts) table text) (a .ends) (a .stands);
       })
+
+-- what was made, joined to each of a list in turn; a refusal is handed on
+unfoldable pub joinAll : Made → List ℕ → List ℕ → List ℕ → Outcome
+joinAll m table text [] = outcome m table text
+joinAll m table text (k ∷ ks) = let o = onward m table text (λ c n. appendMade c table text n k) in joinAll (o .made) (o .table) (o .text) ks
+
+-- a turn of the loop
+pub join-on : (m : Made) (table text : List ℕ) {r : Made} {table′ text′ : List ℕ} (k : ℕ) (ks : List ℕ) → outcome r table′ text′ ≡ onward m table text (λ c n. appendMade c table text n k) → joinAll r table′ text′ ks ≡ joinAll m table text (k ∷ ks)
+unfolding joinAll
+join-on m table text k ks o = ap (λ (x : Outcome). joinAll (x .made) (x .table) (x .text) ks) o
+
+join-refused-on : (why : Why) (table text ks : List ℕ) → joinAll (Refused why) table text ks ≡ outcome (Refused why) table text
+unfolding joinAll
+join-refused-on why table text [] = refl
+join-refused-on why table text (k ∷ ks) = join-refused-on why table text ks
+
+module _ {c₀ : Counts} {table₀ text₀ : List ℕ} {present amount right : Bool} {whole : Sheet → Built} (begun : Begun c₀ table₀ text₀ present amount right whole) where
+  join-along : {c : Counts} {n : NodeNo} (ks : List ℕ) {table text : List ℕ} → Below (c₀ .nodes) ks → Along c₀ table₀ text₀ whole c (n .0) ks table text → joinAll (Node c n) table text ks ≡ made c₀ table₀ text₀ present amount right whole
+  unfolding joinAll
+  join-along [] b a = along-end begun a
+  join-along {c} {n} (k ∷ ks) {table} {text} b a =
+      let x = appendMade c table text (n .0) k in
+      let went = along-went begun a (b .0) {r = x .made} {table′ = x .table} {text′ = x .text} refl in
+      let next = along-next begun a (b .0) {r = x .made} {table′ = x .table} {text′ = x .text} refl (went .answer) in
+      ap (λ (m : Made). joinAll m (x .table) (x .text) ks) (went .answer) ∙ join-along ks (b .1) next
+
+-- the loop from its first answer
+pub join-whole : (A : Asked) {c₀ : Counts} {table₀ text₀ : List ℕ} {present amount right : Bool} {whole : Sheet → Built} (n : NodeNo) (ks : List ℕ) → ((why : Why) → A ≡ Denied why → outcome (Refused why) table₀ text₀ ≡ made c₀ table₀ text₀ present amount right whole)
+    → (A ≡ Granted → Begun c₀ table₀ text₀ present amount right whole × Below (c₀ .nodes) ks × Along c₀ table₀ text₀ whole c₀ (n .0) ks table₀ text₀) → {m : Made} → m ≡ answered A (Node c₀ n) → joinAll m table₀ text₀ ks ≡ made c₀ table₀ text₀ present amount right whole
+join-whole A {c₀} {table₀} {text₀} {present} {amount} {right} {whole} n ks refused granted e = ap (λ (m : Made). joinAll m table₀ text₀ ks) e ∙ go A refl
+  where
+    go : (a : Asked) → A ≡ a → joinAll (answered a (Node c₀ n)) table₀ text₀ ks ≡ made c₀ table₀ text₀ present amount right whole
+    go Granted q = let g = granted q in join-along (g .0) ks (g .1) (g .2)
+    go (Denied why) q = join-refused-on why table₀ text₀ ks ∙ refused why q

@@ -15,13 +15,13 @@ use Rattle.build.specs.declared.Made.the-variants.{Node, Refused}
 use Rattle.build.specs.declared.Asked.the-variants.{Granted, Denied}
 use Rattle.build.specs.Sheet.{Sheet, Built, countsOf, counted, add}
 use Rattle.build.specs.Parts.{hardline, stays, group}
-use Rattle.build.specs.Outcome.{asked, outcome}
+use Rattle.build.specs.Outcome.{asked, outcome, onward, settled}
 use Rattle.build.specs.Constructors.{has, plainMade, groupMade}
 use Rattle.build.proofs.Grow.{Whole, Grown, same, then, whole-grown, add-grown, group-grown}
 use Rattle.build.proofs.Words.{new-word}
 use Rattle.build.proofs.Choices.{group-wraps}
 use Rattle.build.proofs.Lines.{One, whole}
-use Rattle.build.proofs.Stand.{start, Went, taken, refuse, Begun, begin, step, finish}
+use Rattle.build.proofs.Stand.{start, Went, taken, refuse, Begun, begin, step, first-went, finish, first}
 
 module _ (c : Counts) (table text : List ℕ) {flat : Sheet → Built} {k : ℕ} (one : One flat k) where
   abbrev line-of : Sheet → Built
@@ -58,7 +58,7 @@ module _ (c : Counts) (table text : List ℕ) {flat : Sheet → Built} {k : ℕ}
       let l = line-counts in
       rw e (omega (arith, ap (λ (x : Counts). x .nodes) l), ap (λ (x : Counts). x .bytes) l)
 
-  pub soft-refused : (why : Why) → asked c (length table) (length text) true true true (c .nodes + 4) (c .bytes + k) ≡ Denied why → outcome (Refused why) table text ≡ plainMade c table text soft
+  soft-refused : (why : Why) → asked c (length table) (length text) true true true (c .nodes + 4) (c .bytes + k) ≡ Denied why → outcome (Refused why) table text ≡ plainMade c table text soft
   soft-refused why d = refuse c table text true true true soft _ _ right-counts why d
 
   module _ (granted : asked c (length table) (length text) true true true (c .nodes + 4) (c .bytes + k) ≡ Granted) where
@@ -68,10 +68,7 @@ module _ (c : Counts) (table text : List ℕ) {flat : Sheet → Built} {k : ℕ}
     begun : Begun c table text true true true soft
     begun = begin c table text true true true soft (c .nodes + 4) (c .bytes + k) right-counts (then line-grown last) granted
 
-    pub soft-first : {m : Made} {table′ text′ : List ℕ} → outcome m table′ text′ ≡ plainMade c table text line-of → Went table text (line-of s₀) m table′ text′
-    soft-first o = step begun (begun .stands) line-of (same s₀) line-grown last refl refl refl o
-
-    pub soft-last : {m : Made} {table₁ text₁ : List ℕ} → Went table text (line-of s₀) m table₁ text₁ → {c₁ : Counts} {n₁ : NodeNo} → m ≡ Node c₁ n₁ → {m₂ : Made} {table₂ text₂ : List ℕ} → outcome m₂ table₂ text₂ ≡ groupMade c₁ table₁ text₁ (n₁ .0) → outcome m₂ table₂ text₂ ≡ plainMade c table text soft
+    soft-last : {m : Made} {table₁ text₁ : List ℕ} → Went table text (line-of s₀) m table₁ text₁ → {c₁ : Counts} {n₁ : NodeNo} → m ≡ Node c₁ n₁ → {m₂ : Made} {table₂ text₂ : List ℕ} → outcome m₂ table₂ text₂ ≡ groupMade c₁ table₁ text₁ (n₁ .0) → outcome m₂ table₂ text₂ ≡ plainMade c table text soft
     unfolding counted
     soft-last went {c₁} {n₁} e o =
         let t = taken went e in
@@ -80,3 +77,9 @@ module _ (c : Counts) (table text : List ℕ) {flat : Sheet → Built} {k : ℕ}
         let f = ap (λ (x : Counts). x .nodes) (one .counts (hardline s₀ .sheet)) in
         let present : has c₁ (line-of s₀ .node) ≡ true = lt-ltb (line-of s₀ .node) (c₁ .nodes) (omega arith) in
         finish begun (step begun (t .0) (λ s. group s (line-of s₀ .node)) line-grown last (same (soft s₀ .sheet)) present refl refl o′)
+
+  pub soft-made : (m : Made) (table₁ text₁ : List ℕ) → outcome m table₁ text₁ ≡ settled (asked c (length table) (length text) true true true (c .nodes + 4) (c .bytes + k)) (line-of s₀) table text
+      → {m₂ : Made} {table₂ text₂ : List ℕ} → outcome m₂ table₂ text₂ ≡ onward m table₁ text₁ (λ c₁ n₁. groupMade c₁ table₁ text₁ n₁) → outcome m₂ table₂ text₂ ≡ plainMade c table text soft
+  soft-made m table₁ text₁ o₁ o₂ =
+      first (asked c (length table) (length text) true true true (c .nodes + 4) (c .bytes + k)) (line-of s₀) table text soft-refused m table₁ text₁ (λ c₁ n₁. groupMade c₁ table₁ text₁ n₁) o₁ o₂
+      (λ g c₁ n₁ e o r. soft-last g (first-went (begun g) (line-of s₀) line-grown (last g) o) e r)

@@ -1,7 +1,8 @@
 -- How a constructor that is put together of others goes on from part to part.
 --     Stands     counts, table and text, where a sheet was built over a first table and text
---     start, part, taken, never, done   before the first part, over one, its answer taken apart, after the last
---     refuse, begin, step, finish       the whole: refused, or granted with all of its room, and its parts one by one
+--     start, part, gone, taken, never, done   before the first part, over one, its answer taken apart, after the last
+--     refuse, settle, begin, step, finish   the whole: refused, or granted with all of its room, and its parts one by one
+--     first-denied, first-granted, first    a first part that asks for the whole
 -- Assumes nothing.
 use Prim.Native.Nat.{ℕ, _+_, _-_, _*_, _/_, _≤_}
 use native.Mathlib.Omega.{arith}
@@ -19,8 +20,8 @@ use Rattle.build.specs.declared.Made.the-variants.{Node, Refused}
 use Rattle.build.specs.declared.Asked.{Asked}
 use Rattle.build.specs.declared.Asked.the-variants.{Granted, Denied}
 use Rattle.build.specs.Sheet.{Sheet, Built, counted, over}
-use Rattle.build.specs.Outcome.{past, asked, Outcome, outcome, added, made}
-use Rattle.build.proofs.Grow.{Whole, Grown, whole-grown, more-nodes, more-bytes}
+use Rattle.build.specs.Outcome.{past, asked, Outcome, outcome, onward, added, settled, made}
+use Rattle.build.proofs.Grow.{Whole, Grown, same, whole-grown, more-nodes, more-bytes}
 use Rattle.build.proofs.Room.{neither, stretch, fits-inside, Room, Allowed, allowed, granted}
 
 -- counts c over table and text, where sheet s was built over a first table and a first text
@@ -143,6 +144,10 @@ part {table₀} {text₀} {s} {c} {table} {text} h f g r present amount right p 
     rw (same-words h, same-bytes h, h .counts) (record { counted-nodes = n; counted-bytes = h .bytes-inside; operands = p; amounts = a; texts = t; room = r }) in
     went-added h b g r (e ∙ made-granted c table text present amount right f b (ap f (stands-counted h)) (granted ok))
 
+-- what goes on from it
+pub gone : {table₀ text₀ : List ℕ} {b : Built} {m : Made} {table text : List ℕ} → Went table₀ text₀ b m table text → (next : Counts → ℕ → Outcome) → onward m table text next ≡ next (b .sheet .counts) (b .node)
+gone {table = table} {text = text} w next = ap (λ (k : Made). onward k table text next) (w .answer)
+
 -- its answer taken apart
 pub taken : {table₀ text₀ : List ℕ} {b : Built} {m : Made} {table text : List ℕ} → Went table₀ text₀ b m table text → {c : Counts} {n : NodeNo} → m ≡ Node c n → Stands table₀ text₀ (b .sheet) c table text × (n .0 ≡ b .node)
 taken {b = b} w {c} {n} e =
@@ -152,9 +157,12 @@ taken {b = b} w {c} {n} e =
     let s = w .stands in
     (record { counts = p; words = s .words; bytes = s .bytes; whole = s .whole; nodes-inside = s .nodes-inside; bytes-inside = s .bytes-inside }, ap (λ (x : NodeNo). x .0) r)
 
--- it is no refusal
+-- an answer is no refusal
+pub apart : {c : Counts} {n : NodeNo} {why : Why} → Node c n ≡ Refused why → ⊥
+apart e = let z : _≡_ {A = ℕ} 0 1 = cc in omega arith
+
 pub never : {table₀ text₀ : List ℕ} {b : Built} {m : Made} {table text : List ℕ} → Went table₀ text₀ b m table text → {why : Why} → m ≡ Refused why → ⊥
-never w e = let z : _≡_ {A = ℕ} 0 1 = cc (w .answer) in omega arith
+never w e = apart (sym (w .answer) ∙ e)
 
 -- after the last part
 pub done : {table₀ text₀ : List ℕ} {b : Built} {m : Made} {table text : List ℕ} → Went table₀ text₀ b m table text → outcome m table text ≡ added b table₀ text₀
@@ -176,6 +184,10 @@ module _ (c : Counts) (table text : List ℕ) (present amount right : Bool) (f :
   pub refuse : (why : Why) → asked c (length table) (length text) present amount right nodes used ≡ Denied why → outcome (Refused why) table text ≡ made c table text present amount right f
   refuse why d = made-denied c table text present amount right f _ _ why refl refl (asked-is ∙ d)
 
+  pub settle : settled (asked c (length table) (length text) present amount right nodes used) (f (counted c table text)) table text ≡ made c table text present amount right f
+  unfolding made
+  settle = ap (λ (a : Asked). settled a (f (counted c table text)) table text) (sym asked-is)
+
   pub begin : Grown (counted c table text) (f (counted c table text) .sheet) → asked c (length table) (length text) present amount right nodes used ≡ Granted → Begun c table text present amount right f
   begin g e =
       let b = f (counted c table text) in
@@ -189,20 +201,50 @@ module _ (c : Counts) (table text : List ℕ) (present amount right : Bool) (f :
       }
 
 module _ {c₀ : Counts} {table₀ text₀ : List ℕ} {present₀ amount₀ right₀ : Bool} {whole : Sheet → Built} (begun : Begun c₀ table₀ text₀ present₀ amount₀ right₀ whole) where
+  -- room for what grew from the first sheet, where the whole grows from it
+  room-for : {s t : Sheet} → Grown (counted c₀ table₀ text₀) s → Grown s t → Grown t (whole (counted c₀ table₀ text₀) .sheet) → Room (length table₀) (length text₀) (s .counts) (t .counts)
+  unfolding counted
+  room-for {s} {t} before here after =
+      let r = begun .facts .room in
+      record {
+        nodes = stretch (s .counts .nodes) (t .counts .nodes) (r .nodes) (more-nodes before) (more-nodes here) (more-nodes after);
+        used = stretch (s .counts .bytes) (t .counts .bytes) (r .used) (more-bytes before) (more-bytes here) (more-bytes after);
+      }
+
   -- a part of the whole: the sheet before it grew from the first, and the whole grows from it
   pub step : {s : Sheet} {c : Counts} {table text : List ℕ} → Stands table₀ text₀ s c table text → (f : Sheet → Built) → Grown (counted c₀ table₀ text₀) s → Grown s (f s .sheet) → Grown (f s .sheet) (whole (counted c₀ table₀ text₀) .sheet)
       → {present amount right : Bool} → present ≡ true → amount ≡ true → right ≡ true → {m : Made} {table′ text′ : List ℕ} → outcome m table′ text′ ≡ made c table text present amount right f → Went table₀ text₀ (f s) m table′ text′
-  unfolding counted
-  step {s} h f before here after {present} {amount} {right} p a t e =
-      let r = begun .facts .room in
-      let t′ = f s .sheet in
-      let room : Room (length table₀) (length text₀) (s .counts) (t′ .counts) =
-      record {
-        nodes = stretch (s .counts .nodes) (t′ .counts .nodes) (r .nodes) (more-nodes before) (more-nodes here) (more-nodes after);
-        used = stretch (s .counts .bytes) (t′ .counts .bytes) (r .used) (more-bytes before) (more-bytes here) (more-bytes after);
-      } in
-      part h f here room present amount right p a t e
+  step h f before here after {present} {amount} {right} p a t e = part h f here (room-for before here after) present amount right p a t e
+
+  -- the first part, where it asks for the whole
+  pub first-went : (b : Built) → Grown (counted c₀ table₀ text₀) (b .sheet) → Grown (b .sheet) (whole (counted c₀ table₀ text₀) .sheet) → {m : Made} {table′ text′ : List ℕ} → outcome m table′ text′ ≡ added b table₀ text₀ → Went table₀ text₀ b m table′ text′
+  first-went b here after o = went-added (begun .stands) b here (room-for (same (counted c₀ table₀ text₀)) here after) o
 
   -- the last part gives the whole
   pub finish : {m : Made} {table text : List ℕ} → Went table₀ text₀ (whole (counted c₀ table₀ text₀)) m table text → outcome m table text ≡ made c₀ table₀ text₀ present₀ amount₀ right₀ whole
   finish w = done w ∙ sym (begun .whole)
+
+-- ---- a first part that asks for the whole
+
+module _ (A : Asked) (b : Built) (table text : List ℕ) {m : Made} {table′ text′ : List ℕ} (o : outcome m table′ text′ ≡ settled A b table text) where
+  -- its refusal is the whole's
+  pub first-denied : {W : Outcome} → ((why : Why) → A ≡ Denied why → outcome (Refused why) table text ≡ W) → {why : Why} → m ≡ Refused why → outcome m table′ text′ ≡ W
+  first-denied {W} refused {why} e = go A refl
+    where
+      go : (a : Asked) → A ≡ a → outcome m table′ text′ ≡ W
+      go Granted q = unfold added in absurd (apart (sym (ap (λ (x : Outcome). x .made) (o ∙ ap (λ (x : Asked). settled x b table text) q)) ∙ e))
+      go (Denied also) q = o ∙ ap (λ (x : Asked). settled x b table text) q ∙ refused also q
+
+  pub first-granted : {c : Counts} {n : NodeNo} → m ≡ Node c n → (A ≡ Granted) × (outcome m table′ text′ ≡ added b table text)
+  first-granted {c} {n} e = go A refl
+    where
+      go : (a : Asked) → A ≡ a → (A ≡ Granted) × (outcome m table′ text′ ≡ added b table text)
+      go Granted q = (q, o ∙ ap (λ (x : Asked). settled x b table text) q)
+      go (Denied why) q = absurd (apart (sym e ∙ ap (λ (x : Outcome). x .made) (o ∙ ap (λ (x : Asked). settled x b table text) q)))
+
+-- what goes on from it comes to the whole, or its refusal does
+pub first : (A : Asked) (b : Built) (table text : List ℕ) {W : Outcome} → ((why : Why) → A ≡ Denied why → outcome (Refused why) table text ≡ W)
+    → (m : Made) (table′ text′ : List ℕ) (next : Counts → ℕ → Outcome) {r : Outcome} → outcome m table′ text′ ≡ settled A b table text → r ≡ onward m table′ text′ next
+    → (A ≡ Granted → (c : Counts) (n : NodeNo) → m ≡ Node c n → outcome m table′ text′ ≡ added b table text → r ≡ next c (n .0) → r ≡ W) → r ≡ W
+first A b table text refused (Node c n) table′ text′ next o r k = let g = first-granted A b table text o refl in k (g .0) c n refl (g .1) r
+first A b table text refused (Refused why) table′ text′ next o r k = r ∙ first-denied A b table text o refused refl

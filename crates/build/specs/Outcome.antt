@@ -42,6 +42,11 @@ asked c words bytes present amount text nodes used =
     (pick (not (fits (c .nodes) nodes 1024 (words / 4))) (Denied Nodes)
     Granted)))))
 
+-- an answer that adds nothing, or the refusal
+abbrev pub answered : Asked → Made → Made
+answered Granted m = m
+answered (Denied why) m = Refused why
+
 -- an answer, and what table and text hold afterwards
 pub record Outcome : Type 0 where
   pub made : Made
@@ -50,6 +55,11 @@ pub record Outcome : Type 0 where
 
 abbrev pub outcome : Made → List ℕ → List ℕ → Outcome
 outcome made table text = record { made = made; table = table; text = text }
+
+-- an answer taken apart: what goes on from it, or the refusal handed on
+abbrev pub onward : Made → List ℕ → List ℕ → (Counts → ℕ → Outcome) → Outcome
+onward (Node c n) table text next = next c (n .0)
+onward (Refused why) table text next = outcome (Refused why) table text
 
 -- what was built stands over the front of table and text
 unfoldable pub added : Built → List ℕ → List ℕ → Outcome

@@ -1,16 +1,19 @@
-// Constructors put together of others: all of it is asked for first, so that no part of it refuses.
+// Constructors put together of others. All of it is asked for first, or with its first part, so that no other part refuses.
 ghost use mathlib.Core.Path.{_≡_};
-ghost use Prim.Native.Nat.{_+_, _*_};
-ghost use lib.ListN.{take};
-ghost use Rattle.build.specs.Solid.{nestAdds, indentAdds};
-ghost use Rattle.build.specs.Outcome.{outcome};
-ghost use Rattle.build.specs.Constructors.{spaceMade, lineMade, line₀Made, softlineMade, softline₀Made, hangMade, indentMade};
+ghost use mathlib.Core.Bool.{true};
+ghost use Prim.Native.Nat.{_+_, _*_, _≤_};
+ghost use lib.Dec.{leb};
+ghost use lib.ListN.{length, take, replicate};
+ghost use Rattle.build.specs.Sheet.{counted};
+ghost use Rattle.build.specs.Parts.{line, line₀};
+ghost use Rattle.build.specs.Solid.{indentAdds};
+ghost use Rattle.build.specs.Outcome.{asked, outcome, settled, onward};
+ghost use Rattle.build.specs.Constructors.{has, groupMade, flatAltMade, textMade, spaceMade, lineMade, line₀Made, softlineMade, softline₀Made, hangMade, indentMade};
 use crate::Asked;
 use crate::Asks;
 use crate::Counts;
 use crate::Made;
-use crate::adds;
-use crate::nest_right;
+use crate::appended;
 use table::Column;
 use table::Indent;
 use table::NodeNo;
@@ -22,106 +25,64 @@ impl Counts {
         self.text(table, text, b" ", Column(1))
     }
 
+    // A Hardline or a blank, of so many nodes that are asked for with the Hardline.
+    fn broken_or_blank(self, table: &mut [u32], text: &mut [u8], nodes: usize) -> Made
+        requires { ⌜ 3 ≤ nodes ⌝ }
+        ensures { λ r. ⌜ outcome r (now (table .exit)) (now (text .exit)) ≡ settled (asked self (length (now (table .entry))) (length (now (text .entry))) true true true (self .nodes + nodes) (self .bytes + 1)) (line (counted self (now (table .entry)) (now (text .entry)))) (now (table .entry)) (now (text .entry)) ⌝ }
+    {
+        let mut made = self.node(table, text, true, true, nodes, 1, 5, 0, 0, 0);
+        let Made::Node(c, broken) = made else {
+            return made;
+        };
+        made = c.space(table, text);
+        or_flat(made, table, text, broken)
+    }
+
+    // A Hardline or a Nil, likewise.
+    fn broken_or_nil(self, table: &mut [u32], text: &[u8], nodes: usize) -> Made
+        requires { ⌜ 3 ≤ nodes ⌝ }
+        ensures { λ r. ⌜ outcome r (now (table .exit)) (now (text .entry)) ≡ settled (asked self (length (now (table .entry))) (length (now (text .entry))) true true true (self .nodes + nodes) (self .bytes + 0)) (line₀ (counted self (now (table .entry)) (now (text .entry)))) (now (table .entry)) (now (text .entry)) ⌝ }
+    {
+        let mut made = self.node(table, text, true, true, nodes, 0, 5, 0, 0, 0);
+        let Made::Node(c, broken) = made else {
+            return made;
+        };
+        made = c.nil(table, text);
+        or_flat(made, table, text, broken)
+    }
+
     // Three nodes and one byte.
     pub fn line(self, table: &mut [u32], text: &mut [u8]) -> Made
         ensures { λ r. ⌜ outcome r (now (table .exit)) (now (text .exit)) ≡ lineMade self (now (table .entry)) (now (text .entry)) ⌝ }
     {
-        let asked = self.ask(table.len(), text.len(), adds(3, 1));
-        if let Asked::Denied(why) = asked {
-            return Made::Refused(why);
-        }
-        let first = self.hardline(table, text);
-        let Made::Node(c, broken) = first else {
-            return first;
-        };
-        let second = c.space(table, text);
-        let Made::Node(c, flat) = second else {
-            return second;
-        };
-        c.flat_alt(table, text, broken, flat)
+        self.broken_or_blank(table, text, 3)
     }
 
     pub fn line_(self, table: &mut [u32], text: &[u8]) -> Made
         ensures { λ r. ⌜ outcome r (now (table .exit)) (now (text .entry)) ≡ line₀Made self (now (table .entry)) (now (text .entry)) ⌝ }
     {
-        let asked = self.ask(table.len(), text.len(), adds(3, 0));
-        if let Asked::Denied(why) = asked {
-            return Made::Refused(why);
-        }
-        let first = self.hardline(table, text);
-        let Made::Node(c, broken) = first else {
-            return first;
-        };
-        let second = c.nil(table, text);
-        let Made::Node(c, flat) = second else {
-            return second;
-        };
-        c.flat_alt(table, text, broken, flat)
+        self.broken_or_nil(table, text, 3)
     }
 
     pub fn softline(self, table: &mut [u32], text: &mut [u8]) -> Made
         ensures { λ r. ⌜ outcome r (now (table .exit)) (now (text .exit)) ≡ softlineMade self (now (table .entry)) (now (text .entry)) ⌝ }
     {
-        let asked = self.ask(table.len(), text.len(), adds(4, 1));
-        if let Asked::Denied(why) = asked {
-            return Made::Refused(why);
-        }
-        let first = self.line(table, text);
-        let Made::Node(c, n) = first else {
-            return first;
-        };
-        c.group(table, text, n)
+        let line = self.broken_or_blank(table, text, 4);
+        grouped(line, table, text)
     }
 
     pub fn softline_(self, table: &mut [u32], text: &[u8]) -> Made
         ensures { λ r. ⌜ outcome r (now (table .exit)) (now (text .entry)) ≡ softline₀Made self (now (table .entry)) (now (text .entry)) ⌝ }
     {
-        let asked = self.ask(table.len(), text.len(), adds(4, 0));
-        if let Asked::Denied(why) = asked {
-            return Made::Refused(why);
-        }
-        let first = self.line_(table, text);
-        let Made::Node(c, n) = first else {
-            return first;
-        };
-        c.group(table, text, n)
-    }
-
-    // How many nodes `hang` adds.
-    fn hang_adds(self, table: &[u32], n: NodeNo, amount: Indent) -> usize
-        ensures { λ r. ⌜ r ≡ nestAdds (take (self .nodes * 4) (now (table .entry))) (n .0) (amount .0) + 1 ⌝ }
-    {
-        if self.is_nil(table, n) {
-            return 1;
-        }
-        if amount.0 == 0 {
-            return 1;
-        }
-        2
+        let line = self.broken_or_nil(table, text, 4);
+        grouped(line, table, text)
     }
 
     // Nests, then aligns.
     pub fn hang(self, table: &mut [u32], text: &[u8], n: NodeNo, amount: Indent, way: u32) -> Made
         ensures { λ r. ⌜ outcome r (now (table .exit)) (now (text .entry)) ≡ hangMade self (now (table .entry)) (now (text .entry)) (n .0) (amount .0) way ⌝ }
     {
-        let present = self.has(n);
-        let right = nest_right(amount, way);
-        let more = self.hang_adds(table, n, amount);
-        let asked = self.ask(
-            table.len(),
-            text.len(),
-            Asks {
-                present: present,
-                amount: right,
-                text: true,
-                nodes: more,
-                bytes: 0,
-            },
-        );
-        if let Asked::Denied(why) = asked {
-            return Made::Refused(why);
-        }
-        let first = self.nest(table, text, n, amount, way);
+        let first = self.nest_before(table, text, n, amount, way, 1);
         let Made::Node(c, nested) = first else {
             return first;
         };
@@ -141,36 +102,72 @@ impl Counts {
         4
     }
 
+    // What `indent` asks for.
+    fn ask_indent(self, table: &[u32], bytes: usize, n: NodeNo, by: Indent) -> Asked
+        ensures { λ r. ⌜ r ≡ asked self (length (now (table .entry))) bytes (has self (n .0)) (leb (by .0) 1000) true (self .nodes + indentAdds (take (self .nodes * 4) (now (table .entry))) (n .0) (by .0)) (self .bytes + by .0) ⌝ }
+    {
+        self.ask(
+            table.len(),
+            bytes,
+            Asks {
+                present: self.has(n),
+                amount: by.0 <= 1000,
+                text: true,
+                nodes: self.indent_adds(table, n, by),
+                bytes: by.0 as usize,
+            },
+        )
+    }
+
+    // One Text of so many blanks.
+    fn blanks(self, table: &mut [u32], text: &mut [u8], by: Indent) -> Made
+        requires { ⌜ by .0 ≤ 1000 ⌝ }
+        ensures { λ r. ⌜ outcome r (now (table .exit)) (now (text .exit)) ≡ textMade self (now (table .entry)) (now (text .entry)) (replicate (by .0) 32) (by .0) ⌝ }
+    {
+        let blanks = [32u8; 1000];
+        self.text(table, text, &blanks[..by.0 as usize], Column(by.0))
+    }
+
     // One Text of blanks before the node, then hangs by as much.
     pub fn indent(self, table: &mut [u32], text: &mut [u8], n: NodeNo, by: Indent) -> Made
         ensures { λ r. ⌜ outcome r (now (table .exit)) (now (text .exit)) ≡ indentMade self (now (table .entry)) (now (text .entry)) (n .0) (by .0) ⌝ }
     {
-        let size = by.0 as usize;
-        let present = self.has(n);
-        let more = self.indent_adds(table, n, by);
-        let asked = self.ask(
-            table.len(),
-            text.len(),
-            Asks {
-                present: present,
-                amount: size <= 1000,
-                text: true,
-                nodes: more,
-                bytes: size,
-            },
-        );
+        let asked = self.ask_indent(table, text.len(), n, by);
         if let Asked::Denied(why) = asked {
             return Made::Refused(why);
         }
-        let blanks = [32u8; 1000];
-        let first = self.text(table, text, &blanks[..size], Column(by.0));
-        let Made::Node(c, blank) = first else {
-            return first;
-        };
-        let second = c.append(table, text, blank, n);
-        let Made::Node(c, joined) = second else {
-            return second;
-        };
-        c.hang(table, text, joined, by, 0)
+        let mut made = self.blanks(table, text, by);
+        made = appended(made, table, text, n);
+        hung(made, table, text, by)
     }
+}
+
+// FlatAlt of a node and what was made.
+fn or_flat(made: Made, table: &mut [u32], text: &[u8], broken: NodeNo) -> Made
+    ensures { λ r. ⌜ outcome r (now (table .exit)) (now (text .entry)) ≡ onward made (now (table .entry)) (now (text .entry)) (λ c n. flatAltMade c (now (table .entry)) (now (text .entry)) (broken .0) n) ⌝ }
+{
+    let Made::Node(c, flat) = made else {
+        return made;
+    };
+    c.flat_alt(table, text, broken, flat)
+}
+
+// Group of what was made.
+fn grouped(made: Made, table: &mut [u32], text: &[u8]) -> Made
+    ensures { λ r. ⌜ outcome r (now (table .exit)) (now (text .entry)) ≡ onward made (now (table .entry)) (now (text .entry)) (λ c n. groupMade c (now (table .entry)) (now (text .entry)) n) ⌝ }
+{
+    let Made::Node(c, n) = made else {
+        return made;
+    };
+    c.group(table, text, n)
+}
+
+// What was made, hung.
+fn hung(made: Made, table: &mut [u32], text: &[u8], by: Indent) -> Made
+    ensures { λ r. ⌜ outcome r (now (table .exit)) (now (text .entry)) ≡ onward made (now (table .entry)) (now (text .entry)) (λ c n. hangMade c (now (table .entry)) (now (text .entry)) n (by .0) 0) ⌝ }
+{
+    let Made::Node(c, n) = made else {
+        return made;
+    };
+    c.hang(table, text, n, by, 0)
 }

@@ -2,16 +2,17 @@
 // No public method has a `requires`. Each says its whole outcome by a definition of specs/Constructors.antt, so one outcome is possible.
 // Here: what is asked before anything is added, and reading the counted nodes. node.rt: one node; composed.rt: several; lists.rt: lists of nodes.
 ghost use mathlib.Core.Path.{_≡_};
-ghost use mathlib.Core.Bool.{true, _&&_};
+ghost use mathlib.Core.Bool.{true, _&&_, _||_};
 ghost use mathlib.Core.List.{[], _∷_, _++_};
-ghost use Prim.Native.Nat.{_+_, _-_, _*_, _<_};
+ghost use Prim.Native.Nat.{_+_, _-_, _*_, _≤_, _<_};
 ghost use lib.ListN.{length, take};
 ghost use lib.Dec.{eqb};
 ghost use Rattle.table.specs.Node.{word};
-ghost use Rattle.build.specs.Sheet.{countsOf, counted, over, older, add};
-ghost use Rattle.build.specs.Parts.{stays};
-ghost use Rattle.build.specs.Outcome.{fits, asked, outcome, made};
-ghost use Rattle.build.specs.Constructors.{has, nestRight};
+ghost use Rattle.build.specs.Sheet.{countsOf, counted, over, add};
+ghost use Rattle.build.specs.Parts.{stays, nest};
+ghost use Rattle.build.specs.Solid.{nestAdds};
+ghost use Rattle.build.specs.Outcome.{fits, asked, answered, outcome, settled, onward};
+ghost use Rattle.build.specs.Constructors.{has, nestRight, appendMade};
 use table::Indent;
 use table::NodeNo;
 use utf8::below_128;
@@ -71,19 +72,6 @@ fn fits(before: u32, more: usize, limit: u32, lent: usize) -> bool
     after <= limit && after <= lent
 }
 
-// What a constructor asks for that has no operands and nothing to be out of range.
-fn adds(nodes: usize, bytes: usize) -> Asks
-    ensures { λ r. ⌜ r ≡ record { present = true; amount = true; text = true; nodes = nodes; bytes = bytes } ⌝ }
-{
-    Asks {
-        present: true,
-        amount: true,
-        text: true,
-        nodes: nodes,
-        bytes: bytes,
-    }
-}
-
 // One less, but not less than none.
 fn less_one(n: usize) -> usize
     ensures { λ r. ⌜ r ≡ n - 1 ⌝ }
@@ -118,26 +106,32 @@ impl Counts {
     pub fn ask(self, words: usize, bytes: usize, asks: Asks) -> Asked
         ensures { λ r. ⌜ r ≡ asked self words bytes (asks .present) (asks .amount) (asks .text) (self .nodes + asks .nodes) (self .bytes + asks .bytes) ⌝ }
     {
+        let mut why = Why::Sizes;
         if words / 4 < self.nodes as usize {
-            return Asked::Denied(Why::Sizes);
+            return Asked::Denied(why);
         }
         if bytes < self.bytes as usize {
-            return Asked::Denied(Why::Sizes);
+            return Asked::Denied(why);
         }
+        why = Why::Operand;
         if !asks.present {
-            return Asked::Denied(Why::Operand);
+            return Asked::Denied(why);
         }
+        why = Why::Amount;
         if !asks.amount {
-            return Asked::Denied(Why::Amount);
+            return Asked::Denied(why);
         }
+        why = Why::Text;
         if !asks.text {
-            return Asked::Denied(Why::Text);
+            return Asked::Denied(why);
         }
+        why = Why::Bytes;
         if !fits(self.bytes, asks.bytes, 65536, bytes) {
-            return Asked::Denied(Why::Bytes);
+            return Asked::Denied(why);
         }
+        why = Why::Nodes;
         if !fits(self.nodes, asks.nodes, 1024, words / 4) {
-            return Asked::Denied(Why::Nodes);
+            return Asked::Denied(why);
         }
         Asked::Granted
     }
@@ -220,19 +214,22 @@ impl Counts {
         )
     }
 
-    // A node of these words, if its operands are present and its amount is right.
+    // A node of these words, the first of so many that are asked for with so many bytes.
     fn node(
         self,
         table: &mut [u32],
         text: &[u8],
         present: bool,
         amount: bool,
+        nodes: usize,
+        bytes: usize,
         k: u32,
         a: u32,
         b: u32,
         c: u32,
     ) -> Made
-        ensures { λ r. ⌜ outcome r (now (table .exit)) (now (text .entry)) ≡ made self (now (table .entry)) (now (text .entry)) present amount true (λ s. add s k a b c) ⌝ }
+        requires { ⌜ 0 < nodes ⌝ }
+        ensures { λ r. ⌜ outcome r (now (table .exit)) (now (text .entry)) ≡ settled (asked self (length (now (table .entry))) (length (now (text .entry))) present amount true (self .nodes + nodes) (self .bytes + bytes)) (add (counted self (now (table .entry)) (now (text .entry))) k a b c) (now (table .entry)) (now (text .entry)) ⌝ }
     {
         let asked = self.ask(
             table.len(),
@@ -241,8 +238,8 @@ impl Counts {
                 present: present,
                 amount: amount,
                 text: true,
-                nodes: 1,
-                bytes: 0,
+                nodes: nodes,
+                bytes: bytes,
             },
         );
         if let Asked::Denied(why) = asked {
@@ -251,18 +248,26 @@ impl Counts {
         self.add(table, k, a, b, c)
     }
 
-    // An older node, given back.
-    fn older(self, table: &[u32], text: &[u8], present: bool, amount: bool, n: NodeNo) -> Made
-        ensures { λ r. ⌜ outcome r (now (table .entry)) (now (text .entry)) ≡ made self (now (table .entry)) (now (text .entry)) present amount true (λ s. older s (n .0)) ⌝ }
+    // An older node, given back, where so many nodes more fit into a table and a text of these lengths.
+    fn older(
+        self,
+        words: usize,
+        bytes: usize,
+        present: bool,
+        amount: bool,
+        more: usize,
+        n: NodeNo,
+    ) -> Made
+        ensures { λ r. ⌜ r ≡ answered (asked self words bytes present amount true (self .nodes + more) (self .bytes + 0)) (Made.Node self n) ⌝ }
     {
         let asked = self.ask(
-            table.len(),
-            text.len(),
+            words,
+            bytes,
             Asks {
                 present: present,
                 amount: amount,
                 text: true,
-                nodes: 0,
+                nodes: more,
                 bytes: 0,
             },
         );
@@ -271,4 +276,53 @@ impl Counts {
         }
         Made::Node(self, n)
     }
+
+    // Whether Nest gives the node back.
+    fn nest_stays(self, table: &[u32], n: NodeNo, amount: Indent) -> bool
+        ensures { λ r. ⌜ r ≡ eqb (word (take (self .nodes * 4) (now (table .entry))) (n .0) 0) 0 || eqb (amount .0) 0 ⌝ }
+    {
+        self.is_nil(table, n) || amount.0 == 0
+    }
+
+    // A Nest that is asked for with so many nodes behind it.
+    fn nest_before(
+        self,
+        table: &mut [u32],
+        text: &[u8],
+        n: NodeNo,
+        amount: Indent,
+        way: u32,
+        more: usize,
+    ) -> Made
+        requires { ⌜ more ≤ 1 ⌝ }
+        ensures { λ r. ⌜ outcome r (now (table .exit)) (now (text .entry)) ≡ settled (asked self (length (now (table .entry))) (length (now (text .entry))) (has self (n .0)) (nestRight (amount .0) way) true (self .nodes + (nestAdds (take (self .nodes * 4) (now (table .entry))) (n .0) (amount .0) + more)) (self .bytes + 0)) (nest (counted self (now (table .entry)) (now (text .entry))) (n .0) (amount .0) way) (now (table .entry)) (now (text .entry)) ⌝ }
+    {
+        let present = self.has(n);
+        let right = nest_right(amount, way);
+        if self.nest_stays(table, n, amount) {
+            return self.older(table.len(), text.len(), present, right, more, n);
+        }
+        self.node(
+            table,
+            text,
+            present,
+            right,
+            1 + more,
+            0,
+            4,
+            n.0,
+            amount.0,
+            way,
+        )
+    }
+}
+
+// What was made, with a node behind it; a refusal is handed on.
+fn appended(made: Made, table: &mut [u32], text: &[u8], n: NodeNo) -> Made
+    ensures { λ r. ⌜ outcome r (now (table .exit)) (now (text .entry)) ≡ onward made (now (table .entry)) (now (text .entry)) (λ c before. appendMade c (now (table .entry)) (now (text .entry)) before (n .0)) ⌝ }
+{
+    let Made::Node(c, before) = made else {
+        return made;
+    };
+    c.append(table, text, before, n)
 }

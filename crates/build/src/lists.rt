@@ -1,16 +1,15 @@
-// Constructors of lists of nodes, which are joined one after the other. All of it is asked for first.
+// Constructors of lists of nodes, which are joined one after the other. All of it is asked for with the first node.
 ghost use mathlib.Core.Path.{_≡_};
-ghost use mathlib.Core.Bool.{true, _&&_};
+ghost use mathlib.Core.Bool.{_&&_};
 ghost use mathlib.Core.List.{[], _∷_};
-ghost use Prim.Native.Nat.{_+_, _-_, _*_};
+ghost use Prim.Native.Nat.{_+_, _-_, _*_, _<_};
 ghost use lib.ListN.{length, take};
 ghost use Rattle.build.specs.Solid.{solid};
-ghost use Rattle.build.specs.Outcome.{asked, outcome};
+ghost use Rattle.build.specs.Outcome.{outcome};
 ghost use Rattle.build.specs.Constructors.{has, hasAll, encloseMade, concatMade, intersperseMade};
-use crate::Asked;
-use crate::Asks;
 use crate::Counts;
 use crate::Made;
+use crate::appended;
 use crate::less_one;
 use table::NodeNo;
 
@@ -61,22 +60,13 @@ impl Counts {
         count
     }
 
-    // What a list is asked for that joins so many nodes.
-    fn ask_joined(self, table: &[u32], text: &[u8], present: bool, solid: usize) -> Asked
-        ensures { λ r. ⌜ r ≡ asked self (length (now (table .entry))) (length (now (text .entry))) present true true (self .nodes + (solid - 1)) (self .bytes + 0) ⌝ }
+    // How many nodes `intersperse` adds to some.
+    fn separated_adds(self, table: &[u32], nodes: &[u32], separator: NodeNo) -> usize
+        requires { ⌜ 0 < length (now nodes) ⌝ }
+        ensures { λ r. ⌜ r ≡ solid (take (self .nodes * 4) (now (table .entry))) (now (nodes .entry)) + (length (now (nodes .entry)) - 1) * solid (take (self .nodes * 4) (now (table .entry))) (separator .0 ∷ []) - 1 ⌝ }
     {
-        let nodes = less_one(solid);
-        self.ask(
-            table.len(),
-            text.len(),
-            Asks {
-                present: present,
-                amount: true,
-                text: true,
-                nodes: nodes,
-                bytes: 0,
-            },
-        )
+        let solid = self.solid(table, nodes) + self.separators(table, separator, nodes.len() - 1);
+        less_one(solid)
     }
 
     // Starts from the first; of none one Nil.
@@ -86,23 +76,22 @@ impl Counts {
         if nodes.len() == 0 {
             return self.nil(table, text);
         }
-        let asked = self.ask_joined(table, text, self.has_all(nodes), self.solid(table, nodes));
-        if let Asked::Denied(why) = asked {
-            return Made::Refused(why);
-        }
-        let mut c = self;
-        let mut n = NodeNo(nodes[0]);
+        let present = self.has_all(nodes);
+        let more = less_one(self.solid(table, nodes));
+        let mut made = self.older(
+            table.len(),
+            text.len(),
+            present,
+            true,
+            more,
+            NodeNo(nodes[0]),
+        );
         let mut i = 1;
         while i < nodes.len() {
-            let made = c.append(table, text, n, NodeNo(nodes[i]));
-            let Made::Node(next, joined) = made else {
-                return made;
-            };
-            c = next;
-            n = joined;
+            made = appended(made, table, text, NodeNo(nodes[i]));
             i += 1;
         }
-        Made::Node(c, n)
+        made
     }
 
     // The node between the two others.
@@ -132,29 +121,23 @@ impl Counts {
     {
         let present = self.has_with(separator, nodes);
         if nodes.len() == 0 {
-            return self.node(table, text, present, true, 0, 0, 0, 0);
+            return self.node(table, text, present, true, 1, 0, 0, 0, 0, 0);
         }
-        let solid = self.solid(table, nodes) + self.separators(table, separator, nodes.len() - 1);
-        let asked = self.ask_joined(table, text, present, solid);
-        if let Asked::Denied(why) = asked {
-            return Made::Refused(why);
-        }
-        let mut c = self;
-        let mut n = NodeNo(nodes[0]);
+        let more = self.separated_adds(table, nodes, separator);
+        let mut made = self.older(
+            table.len(),
+            text.len(),
+            present,
+            true,
+            more,
+            NodeNo(nodes[0]),
+        );
         let mut i = 1;
         while i < nodes.len() {
-            let made = c.append(table, text, n, separator);
-            let Made::Node(next, joined) = made else {
-                return made;
-            };
-            let made = next.append(table, text, joined, NodeNo(nodes[i]));
-            let Made::Node(next, joined) = made else {
-                return made;
-            };
-            c = next;
-            n = joined;
+            made = appended(made, table, text, separator);
+            made = appended(made, table, text, NodeNo(nodes[i]));
             i += 1;
         }
-        Made::Node(c, n)
+        made
     }
 }

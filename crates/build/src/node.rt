@@ -6,7 +6,6 @@ use crate::Asked;
 use crate::Asks;
 use crate::Counts;
 use crate::Made;
-use crate::nest_right;
 use table::Column;
 use table::Indent;
 use table::NodeNo;
@@ -16,47 +15,47 @@ impl Counts {
     pub fn nil(self, table: &mut [u32], text: &[u8]) -> Made
         ensures { λ r. ⌜ outcome r (now (table .exit)) (now (text .entry)) ≡ nilMade self (now (table .entry)) (now (text .entry)) ⌝ }
     {
-        self.node(table, text, true, true, 0, 0, 0, 0)
+        self.node(table, text, true, true, 1, 0, 0, 0, 0, 0)
     }
 
     pub fn hardline(self, table: &mut [u32], text: &[u8]) -> Made
         ensures { λ r. ⌜ outcome r (now (table .exit)) (now (text .entry)) ≡ hardlineMade self (now (table .entry)) (now (text .entry)) ⌝ }
     {
-        self.node(table, text, true, true, 5, 0, 0, 0)
+        self.node(table, text, true, true, 1, 0, 5, 0, 0, 0)
     }
 
     pub fn fail(self, table: &mut [u32], text: &[u8]) -> Made
         ensures { λ r. ⌜ outcome r (now (table .exit)) (now (text .entry)) ≡ failMade self (now (table .entry)) (now (text .entry)) ⌝ }
     {
-        self.node(table, text, true, true, 10, 0, 0, 0)
+        self.node(table, text, true, true, 1, 0, 10, 0, 0, 0)
     }
 
     pub fn flat_alt(self, table: &mut [u32], text: &[u8], broken: NodeNo, flat: NodeNo) -> Made
         ensures { λ r. ⌜ outcome r (now (table .exit)) (now (text .entry)) ≡ flatAltMade self (now (table .entry)) (now (text .entry)) (broken .0) (flat .0) ⌝ }
     {
         let present = self.has_both(broken, flat);
-        self.node(table, text, present, true, 3, broken.0, flat.0, 0)
+        self.node(table, text, present, true, 1, 0, 3, broken.0, flat.0, 0)
     }
 
     pub fn annotate(self, table: &mut [u32], text: &[u8], n: NodeNo, label: u32) -> Made
         ensures { λ r. ⌜ outcome r (now (table .exit)) (now (text .entry)) ≡ annotateMade self (now (table .entry)) (now (text .entry)) (n .0) label ⌝ }
     {
         let present = self.has(n);
-        self.node(table, text, present, true, 7, n.0, label, 0)
+        self.node(table, text, present, true, 1, 0, 7, n.0, label, 0)
     }
 
     pub fn union(self, table: &mut [u32], text: &[u8], first: NodeNo, second: NodeNo) -> Made
         ensures { λ r. ⌜ outcome r (now (table .exit)) (now (text .entry)) ≡ unionMade self (now (table .entry)) (now (text .entry)) (first .0) (second .0) ⌝ }
     {
         let present = self.has_both(first, second);
-        self.node(table, text, present, true, 8, first.0, second.0, 0)
+        self.node(table, text, present, true, 1, 0, 8, first.0, second.0, 0)
     }
 
     pub fn align(self, table: &mut [u32], text: &[u8], n: NodeNo) -> Made
         ensures { λ r. ⌜ outcome r (now (table .exit)) (now (text .entry)) ≡ alignMade self (now (table .entry)) (now (text .entry)) (n .0) ⌝ }
     {
         let present = self.has(n);
-        self.node(table, text, present, true, 9, n.0, 0, 0)
+        self.node(table, text, present, true, 1, 0, 9, n.0, 0, 0)
     }
 
     // A Nil gives the other node, the left one looked at first.
@@ -65,12 +64,12 @@ impl Counts {
     {
         let present = self.has_both(a, b);
         if self.is_nil(table, a) {
-            return self.older(table, text, present, true, b);
+            return self.older(table.len(), text.len(), present, true, 0, b);
         }
         if self.is_nil(table, b) {
-            return self.older(table, text, present, true, a);
+            return self.older(table.len(), text.len(), present, true, 0, a);
         }
-        self.node(table, text, present, true, 1, a.0, b.0, 0)
+        self.node(table, text, present, true, 1, 0, 1, a.0, b.0, 0)
     }
 
     // Group, Nil and Text of bytes below 128 are given back.
@@ -79,24 +78,16 @@ impl Counts {
     {
         let present = self.has(n);
         if self.stays(table, text, n) {
-            return self.older(table, text, present, true, n);
+            return self.older(table.len(), text.len(), present, true, 0, n);
         }
-        self.node(table, text, present, true, 2, n.0, 0, 0)
+        self.node(table, text, present, true, 1, 0, 2, n.0, 0, 0)
     }
 
     // Nil is given back, and anything at amount 0. Way 0 adds, 1 subtracts.
     pub fn nest(self, table: &mut [u32], text: &[u8], n: NodeNo, amount: Indent, way: u32) -> Made
         ensures { λ r. ⌜ outcome r (now (table .exit)) (now (text .entry)) ≡ nestMade self (now (table .entry)) (now (text .entry)) (n .0) (amount .0) way ⌝ }
     {
-        let present = self.has(n);
-        let right = nest_right(amount, way);
-        if self.is_nil(table, n) {
-            return self.older(table, text, present, right, n);
-        }
-        if amount.0 == 0 {
-            return self.older(table, text, present, right, n);
-        }
-        self.node(table, text, present, right, 4, n.0, amount.0, way)
+        self.nest_before(table, text, n, amount, way, 0)
     }
 
     // Empty bytes make a Nil.

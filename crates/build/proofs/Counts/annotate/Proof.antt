@@ -1,5 +1,8 @@
--- `annotate`: one node, if its operands are present.
+-- `annotate`: one node, if its operand is present.
 use borrow.Author.Needs.{needs}
+use mathlib.Core.Path.{_∙_}
+use mathlib.Core.Bool.{true}
+use Rattle.build.proofs.Leaf.{node-alone}
 use Rattle.build.proofs.Counts.annotate.Statement.{statement}
 use Rattle.build.proofs.Counts.annotate.Tie as tie
 
@@ -13,7 +16,7 @@ same-length : tie.Need-same-length
 same-length c = search needs
 
 returns : tie.Need-returns
-returns c = simp (← (c .before .before .before .before .has .ensures)) (c .before .before .node .ensures)
+returns c = let a = c .before .before .before .before .before .before .before .args in simp (← (c .before .before .before .before .has .ensures)) (c .before .before .node .ensures ∙ node-alone (a .self) (a .table .now) (a .text .now) (c .before .before .before .before .has .result) true 7 (a .n .0) (a .label) 0)
 
 pub annotate-spec : {M : Type 1} → statement M
 annotate-spec = tie.close (tie.spec has-requires node-requires same-length returns)

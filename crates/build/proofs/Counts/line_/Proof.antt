@@ -1,87 +1,20 @@
--- `line_`, part by part.
+-- `line_`: three nodes.
 use borrow.Author.Needs.{needs}
-use mathlib.Core.Path.{sym, _∙_}
+use mathlib.Core.Path.{_∙_}
 use Rattle.build.specs.Parts.{line₀}
-use Rattle.build.proofs.Stand.{never}
-use Rattle.build.proofs.Lines.{nil-one, line-refused, line-first, line-second, line-last}
+use Rattle.build.proofs.Lines.{nil-one, line-alone}
 use Rattle.build.proofs.Counts.line_.Statement.{statement}
 use Rattle.build.proofs.Counts.line_.Tie as tie
 
-adds-requires : tie.Need-adds-requires
-adds-requires c κs = search needs
-
-ask-requires : tie.Need-ask-requires
-ask-requires c κs = search needs
-
-enum-known-asked : tie.Need-enum-known-asked
-enum-known-asked c = search needs
-
-returns : tie.Need-returns
-unfolding line₀
-returns c = line-refused (c .before .before .before .before .before .before .before .args .self) (c .before .before .before .before .before .before .before .args .table .now) (c .before .before .before .before .before .before .before .args .text .now) nil-one _ (sym (rw (c .before .before .before .before .adds .ensures) at (c .before .before .before .ask .ensures)) ∙ c .before .asked .given .1)
-
-enum-told : tie.Need-enum-told
-enum-told c = search needs
-
-hardline-requires : tie.Need-hardline-requires
-hardline-requires c κs = search needs
-
-enum-known-first : tie.Need-enum-known-first
-enum-known-first c = search needs
-
-enum-told-2 : tie.Need-enum-told-2
-enum-told-2 c = search needs
+broken-or-nil-requires : tie.Need-broken-or-nil-requires
+broken-or-nil-requires c κs = search needs
 
 same-length : tie.Need-same-length
 same-length c = search needs
 
-returns-2 : tie.Need-returns-2
-returns-2 c = absurd (never (line-first (c .before .before .before .before .before .before .before .before .before .before .before .before .args .self) (c .before .before .before .before .before .before .before .before .before .before .before .before .args .table .now) (c .before .before .before .before .before .before .before .before .before .before .before .before .args .text .now) nil-one (sym (rw (c .before .before .before .before .before .before .before .before .before .adds .ensures) at (c .before .before .before .before .before .before .before .before .ask .ensures)) ∙ c .before .before .before .before .before .before .enum-told .given .1) (c .before .before .before .before .hardline .ensures)) (c .enum-told2 .given .1))
-
-nil-requires : tie.Need-nil-requires
-nil-requires c κs = search needs
-
-enum-known-second : tie.Need-enum-known-second
-enum-known-second c = search needs
-
-enum-told-3 : tie.Need-enum-told-3
-enum-told-3 c = search needs
-
-same-length-2 : tie.Need-same-length-2
-same-length-2 c = search needs
-
-returns-3 : tie.Need-returns-3
-returns-3 c = absurd (never (line-second (c .before .before .before .before .before .before .before .before .before .before .before .before .before .before .before .before .before .before .before .args .self) (c .before .before .before .before .before .before .before .before .before .before .before .before .before .before .before .before .before .before .before .args .table .now) (c .before .before .before .before .before .before .before .before .before .before .before .before .before .before .before .before .before .before .before .args .text .now) nil-one (sym (rw (c .before .before .before .before .before .before .before .before .before .before .before .before .before .before .before .before .adds .ensures) at (c .before .before .before .before .before .before .before .before .before .before .before .before .before .before .before .ask .ensures)) ∙ c .before .before .before .before .before .before .before .before .before .before .before .before .before .enum-told .given .1) (line-first (c .before .before .before .before .before .before .before .before .before .before .before .before .before .before .before .before .before .before .before .args .self) (c .before .before .before .before .before .before .before .before .before .before .before .before .before .before .before .before .before .before .before .args .table .now) (c .before .before .before .before .before .before .before .before .before .before .before .before .before .before .before .before .before .before .before .args .text .now) nil-one (sym (rw (c .before .before .before .before .before .before .before .before .before .before .before .before .before .before .before .before .adds .ensures) at (c .before .before .before .before .before .before .before .before .before .before .before .before .before .before .before .ask .ensures)) ∙ c .before .before .before .before .before .before .before .before .before .before .before .before .before .enum-told .given .1) (c .before .before .before .before .before .before .before .before .before .before .before .hardline .ensures)) (c .before .before .before .before .before .before .before .first .given .1) (c .before .before .before .before .nil .ensures)) (c .enum-told3 .given .1))
-
-flat-alt-requires : tie.Need-flat-alt-requires
-flat-alt-requires c κs = search needs
-
-same-length-3 : tie.Need-same-length-3
-same-length-3 c = search needs
-
-returns-4 : tie.Need-returns-4
+returns : tie.Need-returns
 unfolding line₀
-returns-4 c = line-last (c .before .before .before .before .before .before .before .before .before .before .before .before .before .before .before .before .before .before .before .before .before .before .before .before .args .self) (c .before .before .before .before .before .before .before .before .before .before .before .before .before .before .before .before .before .before .before .before .before .before .before .before .args .table .now) (c .before .before .before .before .before .before .before .before .before .before .before .before .before .before .before .before .before .before .before .before .before .before .before .before .args .text .now) nil-one (sym (rw (c .before .before .before .before .before .before .before .before .before .before .before .before .before .before .before .before .before .before .before .before .before .adds .ensures) at (c .before .before .before .before .before .before .before .before .before .before .before .before .before .before .before .before .before .before .before .before .ask .ensures)) ∙ c .before .before .before .before .before .before .before .before .before .before .before .before .before .before .before .before .before .before .enum-told .given .1) (line-first (c .before .before .before .before .before .before .before .before .before .before .before .before .before .before .before .before .before .before .before .before .before .before .before .before .args .self) (c .before .before .before .before .before .before .before .before .before .before .before .before .before .before .before .before .before .before .before .before .before .before .before .before .args .table .now) (c .before .before .before .before .before .before .before .before .before .before .before .before .before .before .before .before .before .before .before .before .before .before .before .before .args .text .now) nil-one (sym (rw (c .before .before .before .before .before .before .before .before .before .before .before .before .before .before .before .before .before .before .before .before .before .adds .ensures) at (c .before .before .before .before .before .before .before .before .before .before .before .before .before .before .before .before .before .before .before .before .ask .ensures)) ∙ c .before .before .before .before .before .before .before .before .before .before .before .before .before .before .before .before .before .before .enum-told .given .1) (c .before .before .before .before .before .before .before .before .before .before .before .before .before .before .before .before .hardline .ensures)) (c .before .before .before .before .before .before .before .before .before .before .before .before .first .given .1) (line-second (c .before .before .before .before .before .before .before .before .before .before .before .before .before .before .before .before .before .before .before .before .before .before .before .before .args .self) (c .before .before .before .before .before .before .before .before .before .before .before .before .before .before .before .before .before .before .before .before .before .before .before .before .args .table .now) (c .before .before .before .before .before .before .before .before .before .before .before .before .before .before .before .before .before .before .before .before .before .before .before .before .args .text .now) nil-one (sym (rw (c .before .before .before .before .before .before .before .before .before .before .before .before .before .before .before .before .before .before .before .before .before .adds .ensures) at (c .before .before .before .before .before .before .before .before .before .before .before .before .before .before .before .before .before .before .before .before .ask .ensures)) ∙ c .before .before .before .before .before .before .before .before .before .before .before .before .before .before .before .before .before .before .enum-told .given .1) (line-first (c .before .before .before .before .before .before .before .before .before .before .before .before .before .before .before .before .before .before .before .before .before .before .before .before .args .self) (c .before .before .before .before .before .before .before .before .before .before .before .before .before .before .before .before .before .before .before .before .before .before .before .before .args .table .now) (c .before .before .before .before .before .before .before .before .before .before .before .before .before .before .before .before .before .before .before .before .before .before .before .before .args .text .now) nil-one (sym (rw (c .before .before .before .before .before .before .before .before .before .before .before .before .before .before .before .before .before .before .before .before .before .adds .ensures) at (c .before .before .before .before .before .before .before .before .before .before .before .before .before .before .before .before .before .before .before .before .ask .ensures)) ∙ c .before .before .before .before .before .before .before .before .before .before .before .before .before .before .before .before .before .before .enum-told .given .1) (c .before .before .before .before .before .before .before .before .before .before .before .before .before .before .before .before .hardline .ensures)) (c .before .before .before .before .before .before .before .before .before .before .before .before .first .given .1) (c .before .before .before .before .before .before .before .before .before .nil .ensures)) (c .before .before .before .before .before .second .given .1) (c .before .before .flat-alt .ensures)
+returns c = let a = c .before .before .before .before .before .before .args in c .before .before .broken-or-nil .ensures ∙ line-alone (a .self) (a .table .now) (a .text .now) nil-one
 
 pub line--spec : {M : Type 1} → statement M
-line--spec =
-    tie.close
-    (tie.spec
-    adds-requires
-    ask-requires
-    enum-known-asked
-    returns
-    enum-told
-    hardline-requires
-    enum-known-first
-    enum-told-2
-    same-length
-    returns-2
-    nil-requires
-    enum-known-second
-    enum-told-3
-    same-length-2
-    returns-3
-    flat-alt-requires
-    same-length-3
-    returns-4)
+line--spec = tie.close (tie.spec broken-or-nil-requires same-length returns)

@@ -1,5 +1,8 @@
 -- `union`: one node, if its operands are present.
 use borrow.Author.Needs.{needs}
+use mathlib.Core.Path.{_∙_}
+use mathlib.Core.Bool.{true}
+use Rattle.build.proofs.Leaf.{node-alone}
 use Rattle.build.proofs.Counts.union.Statement.{statement}
 use Rattle.build.proofs.Counts.union.Tie as tie
 
@@ -13,7 +16,7 @@ same-length : tie.Need-same-length
 same-length c = search needs
 
 returns : tie.Need-returns
-returns c = simp (← (c .before .before .before .before .has-both .ensures)) (c .before .before .node .ensures)
+returns c = let a = c .before .before .before .before .before .before .before .args in simp (← (c .before .before .before .before .has-both .ensures)) (c .before .before .node .ensures ∙ node-alone (a .self) (a .table .now) (a .text .now) (c .before .before .before .before .has-both .result) true 8 (a .first .0) (a .second .0) 0)
 
 pub union-spec : {M : Type 1} → statement M
 union-spec = tie.close (tie.spec has-both-requires node-requires same-length returns)

@@ -1,0 +1,19 @@
+-- `fail`: one node.
+use borrow.Author.Needs.{needs}
+use mathlib.Core.Path.{_∙_}
+use mathlib.Core.Bool.{true}
+use Rattle.build.proofs.Leaf.{node-alone}
+use Rattle.build.proofs.Counts.fail.Statement.{statement}
+use Rattle.build.proofs.Counts.fail.Tie as tie
+
+node-requires : tie.Need-node-requires
+node-requires c κs = search needs
+
+same-length : tie.Need-same-length
+same-length c = search needs
+
+returns : tie.Need-returns
+returns c = let a = c .before .before .before .before .before .before .args in c .before .before .node .ensures ∙ node-alone (a .self) (a .table .now) (a .text .now) true true 10 0 0 0
+
+pub fail-spec : {M : Type 1} → statement M
+fail-spec = tie.close (tie.spec node-requires same-length returns)
