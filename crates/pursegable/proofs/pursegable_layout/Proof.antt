@@ -244,7 +244,6 @@ module _ {M : Type 1} (𝓤 : URA M) (H : Heap 𝓤) (A : Atoms 𝓤) (W : Given
         use1 W (later (some (λ (r : Report). ((‵ (flft κ₀ q₀) ⊛ ‵ (flft κ₁ q₁) ⊛ ‵ (flft κ₂ q₂) ⊛ ‵ (flft κ₃ q₃) ⊛ ‵ (flft κ₄ q₄) ⊛ ‵ ftrue) ⊛ ‵ (D.the-row .own r (w₂ ∷ []))) ⊛ raw (ensured 𝓤 H A lay.ended (lay.clauses 𝓤 H A mem run) (κ₀, (κ₁, (κ₂, (κ₃, (κ₄, tt))))) (as-layout l) tt r)))) (id⊢ 𝓤 _) $ await ! tt $ take-up ! (λ r. split ! $ move ! (1 ∷ []) $ use1 W (some (λ (zs : Lasts). ‵ (lasts lay.ended (κ₀, (κ₁, (κ₂, (κ₃, (κ₄, tt))))) (as-layout l) zs) ⊛ raw (fact 𝓤 (Called (asks l) r (o-of zs) (e-of zs) (k-of zs))))) (id⊢ 𝓤 _) $ take-up ! (λ zs.
         split ! $ move ! (1 ∷ []) $ heard ! (Called (asks l) r (o-of zs) (e-of zs) (k-of zs)) (λ called. fsplit ! $ move ! (1 ∷ []) $ fsplit ! $ move ! (1 ∷ []) $ fsplit ! $ move ! (1 ∷ []) $ fsplit ! $ move ! (1 ∷ []) $ fsplit ! $ move ! (1 ∷ []) $ fsplit ! $ move ! (1 ∷ []) $ fsplit ! $ move ! (3 ∷ []) $ fsplit ! $ move ! (1 ∷ []) $ feqL ! (λ lo. move ! (3 ∷ []) $ fsplit ! $ move ! (1 ∷ []) $ feqL ! (λ le. move ! (2 ∷ []) $ fsplit ! $ move ! (1 ∷ []) $ feqL ! (λ lk. move ! (8 ∷ []) $ split ! $ move ! (1 ∷ []) $ peeks ! D.the-row (Is D.the-row) (shows 𝓤 H A D.the-row) r (w₂ ∷ []) (λ is′.
         let is : Is D.the-row r (mach r ∷ []) = subst (Is D.the-row r) (LL.tells D.the-type D′.the-laws r _ is′) is′ in
-        let wt : Holds (hasTy D′.mir (mach r)) × WT (mach r) = LL.lawful D.the-type D′.the-laws 𝓤 H A W .typed r _ is .0 in
         let ga : r .answer < 2 ^ 32 = LL.owed D.the-type D′.the-laws r _ is .0 .1 in
         land ! (from ! (stop !)) (init ! 38 refl (LL.lawful D.the-type D′.the-laws 𝓤 H A W .typed r _ is′ .0)) $ rewrite ! 38 (λ (u : Val). ‵ (fat fullShare D′.mir l₁₁ 0 u)) (ap only (LL.tells D.the-type D′.the-laws r _ is′)) refl $
         assigns ! (addr ! (from ! (fld ! refl (hop ! (look-in ! 44 (sub ! 0 refl (whole !))) (stop !))))) (from ! (stop !)) (init ! 22 refl (tt, tt)) $ assigns ! (agg ! (and-then ! (load ! (from ! (stop !)) (look ! 22 refl)) (and-then ! (load ! (from ! (fld ! refl (stop !))) (look-in ! 44 (sub ! 1 refl (whole !)))) (no-more !)))) (from ! (stop !)) (init ! 20 refl (tt, (tt, (record { fits = gr .0 }, tt)))) $
