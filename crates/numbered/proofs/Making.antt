@@ -1,4 +1,4 @@
--- Laws of the exported constructors: which one a number makes, and what is left of the caller's words.
+-- Laws of the constructors by number: which one a number makes, and what is left of the caller's words.
 -- Assumes nothing.
 use mathlib.Core.Path.{_≡_, refl, sym, ap, _∙_}
 use mathlib.Core.Bool.{Bool, true, false, not, _&&_}

@@ -1,4 +1,4 @@
--- What an exported constructor promises: the answer, and the whole of table, text and the builder's words afterwards.
+-- What a constructor or a block layout by number promises: the answer, and the whole of table, text and the builder's words afterwards.
 -- Assumes nothing.
 use Prim.Native.Nat.{ℕ}
 use mathlib.Core.Bool.{Bool, not, _&&_}

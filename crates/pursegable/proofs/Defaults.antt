@@ -1,5 +1,6 @@
 -- `pursegable_sheet` and `pursegable_label` meet their contract, which is one, as their code is: a walk of its MIR, by hand. It passes everything on to
 -- `pursegable_layout`, of which it knows only that it meets its contract, with the two defaults. Every buffer is passed on for good, at its own lifetime.
+-- A function's Code is private to its own proof, so the code stands here once more, and each proof's check holds it to its own: `rt dev pursegable --generated DIR` prints it.
 -- Assumes nothing.
 use mathlib.Core.Path.{_≡_, refl, ap}
 use Prim.Native.Nat.{ℕ, _<_, _^_}
