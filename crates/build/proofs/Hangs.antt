@@ -18,7 +18,7 @@ use Rattle.build.specs.declared.Asked.{Asked}
 use Rattle.build.specs.Sheet.{Sheet, countsOf, counted, older, add}
 use Rattle.build.specs.Parts.{isNil, nest, align, hang}
 use Rattle.build.specs.Solid.{nestAdds}
-use Rattle.build.specs.Outcome.{asked, outcome, settled}
+use Rattle.build.specs.Outcome.{Outcome, asked, outcome, settled}
 use Rattle.build.specs.Constructors.{has, nestRight, nestMade, alignMade, hangMade}
 use Rattle.build.proofs.Grow.{Grown, same, add-grown, nest-grown, hang-grown}
 use Rattle.build.proofs.Choices.{nest-stays, nest-wraps}
@@ -59,21 +59,21 @@ module _ (c : Counts) (table text : List ℕ) (n amount way : ℕ) where
   nest-asked nodes = asked c (length table) (length text) (has c n) (nestRight amount way) true (c .nodes + nodes) (c .bytes + 0)
 
   module _ (more : ℕ) where
-    pub nest-kept : isNil s₀ n || eqb amount 0 ≡ true → settled (nest-asked more) (older s₀ n) table text ≡ settled (nest-asked (adds + more)) (nest s₀ n amount way) table text
-    nest-kept e =
+    pub nest-kept : isNil s₀ n || eqb amount 0 ≡ true → {r : Outcome} → r ≡ settled (nest-asked more) (older s₀ n) table text → r ≡ settled (nest-asked (adds + more)) (nest s₀ n amount way) table text
+    nest-kept e o =
         let a : more ≡ adds + more = unfold nestAdds in rw e (omega arith) in
         let b = sym (nest-stays s₀ n amount way e) in
-        λ i. settled (nest-asked (a i)) (b i) table text
+        o ∙ (λ i. settled (nest-asked (a i)) (b i) table text)
 
-    pub nest-wrapped : isNil s₀ n || eqb amount 0 ≡ false → settled (nest-asked (1 + more)) (add s₀ 4 n amount way) table text ≡ settled (nest-asked (adds + more)) (nest s₀ n amount way) table text
-    nest-wrapped e =
+    pub nest-wrapped : isNil s₀ n || eqb amount 0 ≡ false → {r : Outcome} → r ≡ settled (nest-asked (1 + more)) (add s₀ 4 n amount way) table text → r ≡ settled (nest-asked (adds + more)) (nest s₀ n amount way) table text
+    nest-wrapped e o =
         let a : 1 + more ≡ adds + more = unfold nestAdds in rw e (omega arith) in
         let b = sym (nest-wraps s₀ n amount way e) in
-        λ i. settled (nest-asked (a i)) (b i) table text
+        o ∙ (λ i. settled (nest-asked (a i)) (b i) table text)
 
-  pub nest-alone : settled (nest-asked (adds + 0)) (nest s₀ n amount way) table text ≡ nestMade c table text n amount way
+  pub nest-alone : {r : Outcome} → r ≡ settled (nest-asked (adds + 0)) (nest s₀ n amount way) table text → r ≡ nestMade c table text n amount way
   unfolding counted
-  nest-alone = settle c table text (has c n) (nestRight amount way) true (λ s. nest s n amount way) (c .nodes + (adds + 0)) (c .bytes + 0) counts
+  nest-alone e = e ∙ settle c table text (has c n) (nestRight amount way) true (λ s. nest s n amount way) (c .nodes + (adds + 0)) (c .bytes + 0) counts
     where
       counts : c .nodes ≤ length table / 4 → c .bytes ≤ length text → has c n ≡ true → (nest s₀ n amount way .sheet .counts .nodes ≡ c .nodes + (adds + 0)) × (nest s₀ n amount way .sheet .counts .bytes ≡ c .bytes + 0)
       counts h b p =

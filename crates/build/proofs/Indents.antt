@@ -2,7 +2,7 @@
 use Prim.Native.Nat.{ℕ, zero, suc, _+_, _*_, _/_, _≤_, _<_}
 use native.Mathlib.Omega.{arith}
 use native.Mathlib.Nat.{not-suc-le-zero, le-of-suc-le-suc}
-use mathlib.Core.Path.{_≡_, refl, ap, _∙_}
+use mathlib.Core.Path.{_≡_, refl, sym, ap, _∙_}
 use mathlib.Core.Bool.{Bool, true, false, _||_, _&&_}
 use mathlib.Core.List.{List, [], _∷_}
 use lib.ListN.{length, take, replicate, length-replicate}
@@ -138,10 +138,10 @@ module _ (c : Counts) (table letters : List ℕ) (n by : ℕ) where
       let e = indent-counts s₀ n by (start c table letters h b .whole) (ltb-true n (c .nodes) p) in
       (ap (λ (x : Counts). x .nodes) e, ap (λ (x : Counts). x .bytes) e)
 
-  pub indent-refused : (why : Why) → indent-asked ≡ Denied why → outcome (Refused why) table letters ≡ indentMade c table letters n by
-  indent-refused why d = refuse c table letters (has c n) (leb by 1000) true (λ s. indent s n by) _ _ right-counts why d
+  pub indent-refused : {r : Asked} → r ≡ indent-asked → {why : Why} → r ≡ Denied why → outcome (Refused why) table letters ≡ indentMade c table letters n by
+  indent-refused is d = refuse c table letters (has c n) (leb by 1000) true (λ s. indent s n by) _ _ right-counts _ (sym is ∙ d)
 
-  module _ (granted : indent-asked ≡ Granted) where
+  module _ {r : Asked} (is : r ≡ indent-asked) (told : r ≡ Granted) where
     grown₁ : Grown s₀ (s₁ .sheet)
     grown₁ = text-grown s₀ (replicate by 32) by
 
@@ -153,7 +153,7 @@ module _ (c : Counts) (table letters : List ℕ) (n by : ℕ) where
     grown₃ = hang-grown (s₂ .sheet) (s₂ .node) by 0
 
     begun : Begun c table letters (has c n) (leb by 1000) true (λ s. indent s n by)
-    begun = begin c table letters (has c n) (leb by 1000) true (λ s. indent s n by) _ _ right-counts (then grown₁ (then grown₂ grown₃)) granted
+    begun = begin c table letters (has c n) (leb by 1000) true (λ s. indent s n by) _ _ right-counts (then grown₁ (then grown₂ grown₃)) (sym is ∙ told)
 
     pub indent-by : by ≤ 1000
     indent-by = leb-true by 1000 (begun .facts .amounts)

@@ -15,7 +15,7 @@ use Rattle.build.specs.declared.Made.the-variants.{Node, Refused}
 use Rattle.build.specs.declared.Asked.{Asked}
 use Rattle.build.specs.declared.Asked.the-variants.{Granted, Denied}
 use Rattle.build.specs.Sheet.{Built, countsOf, counted, over, older, add}
-use Rattle.build.specs.Outcome.{asked, answered, outcome, added, settled, made}
+use Rattle.build.specs.Outcome.{Outcome, asked, answered, outcome, added, settled, made}
 use Rattle.build.proofs.Room.{Allowed, allowed}
 use Rattle.build.proofs.Stand.{over-front, settle}
 
@@ -52,10 +52,13 @@ module _ (c : Counts) (table text : List ℕ) (present amount : Bool) where
       abbrev node-asked : Asked
       node-asked = asked c (length table) (length text) present amount true (c .nodes + nodes) (c .bytes + bytes)
 
-      pub node-denied : (why : Why) → node-asked ≡ Denied why → outcome (Refused why) table text ≡ settled node-asked new table text
-      node-denied why e = rw e refl
+      pub node-denied : {r : Asked} → r ≡ node-asked → {why : Why} → r ≡ Denied why → outcome (Refused why) table text ≡ settled node-asked new table text
+      node-denied is d = rw (sym is ∙ d) refl
 
-      module _ (some : 0 < nodes) (g : node-asked ≡ Granted) where
+      module _ (some : 0 < nodes) {r : Asked} (is : r ≡ node-asked) (told : r ≡ Granted) where
+        g : node-asked ≡ Granted
+        g = sym is ∙ told
+
         node-allowed : Allowed c (countsOf (c .nodes + nodes) (c .bytes + bytes)) (length table) (length text) present amount true
         node-allowed = allowed c (countsOf (c .nodes + nodes) (c .bytes + bytes)) (length table) (length text) present amount true (omega arith) (omega arith) g
 
@@ -73,6 +76,6 @@ module _ (c : Counts) (table text : List ℕ) (present amount : Bool) where
             rw g (λ i. outcome (e i) (t i) (u i))
 
     -- one by itself
-    pub node-alone : settled (asked c (length table) (length text) present amount true (c .nodes + 1) (c .bytes + 0)) new table text ≡ made c table text present amount true (λ s. add s k a b d)
+    pub node-alone : {r : Outcome} → r ≡ settled (asked c (length table) (length text) present amount true (c .nodes + 1) (c .bytes + 0)) new table text → r ≡ made c table text present amount true (λ s. add s k a b d)
     unfolding counted
-    node-alone = settle c table text present amount true (λ s. add s k a b d) (c .nodes + 1) (c .bytes + 0) (λ n u p. (refl, sym (add-zero (c .bytes))))
+    node-alone e = e ∙ settle c table text present amount true (λ s. add s k a b d) (c .nodes + 1) (c .bytes + 0) (λ n u p. (refl, sym (add-zero (c .bytes))))

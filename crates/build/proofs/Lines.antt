@@ -16,7 +16,7 @@ use Rattle.build.specs.declared.Asked.{Asked}
 use Rattle.build.specs.declared.Asked.the-variants.{Granted}
 use Rattle.build.specs.Sheet.{Sheet, Built, countsOf, counted}
 use Rattle.build.specs.Parts.{nil, text, space, hardline, flatAlt}
-use Rattle.build.specs.Outcome.{asked, outcome, onward, settled}
+use Rattle.build.specs.Outcome.{Outcome, asked, outcome, onward, settled}
 use Rattle.build.specs.Constructors.{has, plainMade, flatAltMade}
 use Rattle.build.proofs.Grow.{Grown, same, then, add-grown, text-grown}
 use Rattle.build.proofs.Room.{stretch, allowed, granted}
@@ -83,8 +83,8 @@ module _ (c : Counts) (table text : List ℕ) {flat : Sheet → Built} {k : ℕ}
 
   -- ---- with its first part so many nodes are asked for
 
-  pub line-alone : settled (asked c (length table) (length text) true true true (c .nodes + 3) (c .bytes + k)) (whole s₀) table text ≡ plainMade c table text whole
-  line-alone = settle c table text true true true whole (c .nodes + 3) (c .bytes + k) right-counts
+  pub line-alone : {r : Outcome} → r ≡ settled (asked c (length table) (length text) true true true (c .nodes + 3) (c .bytes + k)) (whole s₀) table text → r ≡ plainMade c table text whole
+  line-alone e = e ∙ settle c table text true true true whole (c .nodes + 3) (c .bytes + k) right-counts
 
   module _ (nodes : ℕ) (enough : 3 ≤ nodes) where
     abbrev line-asked : Asked

@@ -13,6 +13,7 @@ use Rattle.build.specs.declared.Counts.{Counts}
 use Rattle.build.specs.declared.Why.{Why}
 use Rattle.build.specs.declared.Made.{Made}
 use Rattle.build.specs.declared.Made.the-variants.{Node, Refused}
+use Rattle.build.specs.declared.Asked.{Asked}
 use Rattle.build.specs.declared.Asked.the-variants.{Granted, Denied}
 use Rattle.build.specs.Sheet.{Sheet, Built, countsOf, counted, over, add, write}
 use Rattle.build.specs.Parts.{nil, text}
@@ -48,11 +49,17 @@ module _ (c : Counts) (table letters bytes : List ℕ) (columns : ℕ) (right : 
   unfolding counted
   counts-are = text-counts s₀ bytes columns
 
-  pub text-denied : (why : Why) → asked c (length table) (length letters) true true right (c .nodes + 1) (c .bytes + length bytes) ≡ Denied why → outcome (Refused why) table letters ≡ made c table letters true true right (λ s. text s bytes columns)
-  text-denied why d =
-      made-denied c table letters true true right (λ s. text s bytes columns) _ _ why (ap (λ (x : Counts). x .nodes) counts-are) (ap (λ (x : Counts). x .bytes) counts-are) d
+  abbrev text-asked : Asked
+  text-asked = asked c (length table) (length letters) true true right (c .nodes + 1) (c .bytes + length bytes)
 
-  module _ (g : asked c (length table) (length letters) true true right (c .nodes + 1) (c .bytes + length bytes) ≡ Granted) where
+  pub text-denied : {r : Asked} → r ≡ text-asked → {why : Why} → r ≡ Denied why → outcome (Refused why) table letters ≡ made c table letters true true right (λ s. text s bytes columns)
+  text-denied is d =
+      made-denied c table letters true true right (λ s. text s bytes columns) _ _ _ (ap (λ (x : Counts). x .nodes) counts-are) (ap (λ (x : Counts). x .bytes) counts-are) (sym is ∙ d)
+
+  module _ {r : Asked} (is : r ≡ text-asked) (told : r ≡ Granted) where
+    g : text-asked ≡ Granted
+    g = sym is ∙ told
+
     facts : Allowed c after (length table) (length letters) true true right
     facts = allowed c after (length table) (length letters) true true right (omega arith) (omega arith) g
 

@@ -47,7 +47,7 @@ same-length-3 c = search needs
 
 returns-3 : tie.Need-returns-3
 unfolding counted
-returns-3 c = let a = c .before .before .before .before .before .before .before .before .before .before .before .before .before .args in let p = c .before .before .before .before .before .before .before .before .before .before .has-both .result in simp (← (c .before .before .before .before .before .before .before .before .before .before .has-both .ensures)) (c .before .before .node .ensures ∙ node-alone (a .self) (a .table .now) (a .text .now) p true 1 (a .a .0) (a .b .0) 0 ∙ sym (made-same (a .self) (a .table .now) (a .text .now) p true true (λ s. append s (a .a .0) (a .b .0)) (λ s. add s 1 (a .a .0) (a .b .0) 0) (append-both (counted (a .self) (a .table .now) (a .text .now)) (a .a .0) (a .b .0) (sym (c .before .before .before .before .before .before .before .before .is-nil .ensures) ∙ c .before .before .before .before .before .before .before .if1 .left) (sym (c .before .before .before .before .before .is-nil2 .ensures) ∙ c .before .before .before .before .if2 .left))))
+returns-3 c = let a = c .before .before .before .before .before .before .before .before .before .before .before .before .before .args in let p = c .before .before .before .before .before .before .before .before .before .before .has-both .result in simp (← (c .before .before .before .before .before .before .before .before .before .before .has-both .ensures)) (node-alone (a .self) (a .table .now) (a .text .now) p true 1 (a .a .0) (a .b .0) 0 (c .before .before .node .ensures) ∙ sym (made-same (a .self) (a .table .now) (a .text .now) p true true (λ s. append s (a .a .0) (a .b .0)) (λ s. add s 1 (a .a .0) (a .b .0) 0) (append-both (counted (a .self) (a .table .now) (a .text .now)) (a .a .0) (a .b .0) (sym (c .before .before .before .before .before .before .before .before .is-nil .ensures) ∙ c .before .before .before .before .before .before .before .if1 .left) (sym (c .before .before .before .before .before .is-nil2 .ensures) ∙ c .before .before .before .before .if2 .left))))
 
 pub append-spec : {M : Type 1} → statement M
 append-spec = tie.close (tie.spec has-both-requires is-nil-requires older-requires same-length returns is-nil-requires-2 older-requires-2 same-length-2 returns-2 node-requires same-length-3 returns-3)

@@ -1,6 +1,5 @@
 -- `fail`: one node.
 use borrow.Author.Needs.{needs}
-use mathlib.Core.Path.{_∙_}
 use mathlib.Core.Bool.{true}
 use Rattle.build.proofs.Leaf.{node-alone}
 use Rattle.build.proofs.Counts.fail.Statement.{statement}
@@ -13,7 +12,7 @@ same-length : tie.Need-same-length
 same-length c = search needs
 
 returns : tie.Need-returns
-returns c = let a = c .before .before .before .before .before .before .args in c .before .before .node .ensures ∙ node-alone (a .self) (a .table .now) (a .text .now) true true 10 0 0 0
+returns c = let a = c .before .before .before .before .before .before .args in node-alone (a .self) (a .table .now) (a .text .now) true true 10 0 0 0 (c .before .before .node .ensures)
 
 pub fail-spec : {M : Type 1} → statement M
 fail-spec = tie.close (tie.spec node-requires same-length returns)

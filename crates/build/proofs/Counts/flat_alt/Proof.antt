@@ -1,6 +1,5 @@
 -- `flat_alt`: one node, if its operands are present.
 use borrow.Author.Needs.{needs}
-use mathlib.Core.Path.{_∙_}
 use mathlib.Core.Bool.{true}
 use Rattle.build.proofs.Leaf.{node-alone}
 use Rattle.build.proofs.Counts.flat_alt.Statement.{statement}
@@ -16,7 +15,7 @@ same-length : tie.Need-same-length
 same-length c = search needs
 
 returns : tie.Need-returns
-returns c = let a = c .before .before .before .before .before .before .before .args in simp (← (c .before .before .before .before .has-both .ensures)) (c .before .before .node .ensures ∙ node-alone (a .self) (a .table .now) (a .text .now) (c .before .before .before .before .has-both .result) true 3 (a .broken .0) (a .flat .0) 0)
+returns c = let a = c .before .before .before .before .before .before .before .args in simp (← (c .before .before .before .before .has-both .ensures)) (node-alone (a .self) (a .table .now) (a .text .now) (c .before .before .before .before .has-both .result) true 3 (a .broken .0) (a .flat .0) 0 (c .before .before .node .ensures))
 
 pub flat-alt-spec : {M : Type 1} → statement M
 flat-alt-spec = tie.close (tie.spec has-both-requires node-requires same-length returns)

@@ -28,7 +28,7 @@ same-length : tie.Need-same-length Inv-loop μ-loop
 same-length c = search needs
 
 returns : tie.Need-returns Inv-loop μ-loop
-returns c = let a = c .before .before .before .before .before .before .before .before .before .args in rw (c .before .before .before .before .before .has-with .ensures) at (c .before .before .node .ensures) ∙ node-alone (a .self) (a .table .now) (a .text .now) _ true 0 0 0 0 ∙ intersperse-none (a .self) (a .table .now) (a .text .now) (a .separator .0) (a .nodes .now) (c .before .before .before .before .if1 .taken)
+returns c = let a = c .before .before .before .before .before .before .before .before .before .args in node-alone (a .self) (a .table .now) (a .text .now) _ true 0 0 0 0 (rw (c .before .before .before .before .before .has-with .ensures) at (c .before .before .node .ensures)) ∙ intersperse-none (a .self) (a .table .now) (a .text .now) (a .separator .0) (a .nodes .now) (c .before .before .before .before .if1 .taken)
 
 separated-adds-requires : tie.Need-separated-adds-requires Inv-loop μ-loop
 separated-adds-requires c κs = let n = c .before .if1 .left in omega (arith, n)

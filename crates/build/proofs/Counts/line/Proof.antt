@@ -1,6 +1,5 @@
 -- `line`: three nodes.
 use borrow.Author.Needs.{needs}
-use mathlib.Core.Path.{_∙_}
 use Rattle.build.specs.Parts.{line}
 use Rattle.build.proofs.Lines.{space-one, line-alone}
 use Rattle.build.proofs.Counts.line.Statement.{statement}
@@ -17,7 +16,7 @@ same-length-2 c = search needs
 
 returns : tie.Need-returns
 unfolding line
-returns c = let a = c .before .before .before .before .before .before .before .before .before .args in c .before .before .before .before .broken-or-blank .ensures ∙ line-alone (a .self) (a .table .now) (a .text .now) space-one
+returns c = let a = c .before .before .before .before .before .before .before .before .before .args in line-alone (a .self) (a .table .now) (a .text .now) space-one (c .before .before .before .before .broken-or-blank .ensures)
 
 pub line-spec : {M : Type 1} → statement M
 line-spec = tie.close (tie.spec broken-or-blank-requires same-length same-length-2 returns)

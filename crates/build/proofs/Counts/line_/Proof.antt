@@ -1,6 +1,5 @@
 -- `line_`: three nodes.
 use borrow.Author.Needs.{needs}
-use mathlib.Core.Path.{_∙_}
 use Rattle.build.specs.Parts.{line₀}
 use Rattle.build.proofs.Lines.{nil-one, line-alone}
 use Rattle.build.proofs.Counts.line_.Statement.{statement}
@@ -14,7 +13,7 @@ same-length c = search needs
 
 returns : tie.Need-returns
 unfolding line₀
-returns c = let a = c .before .before .before .before .before .before .args in c .before .before .broken-or-nil .ensures ∙ line-alone (a .self) (a .table .now) (a .text .now) nil-one
+returns c = let a = c .before .before .before .before .before .before .args in line-alone (a .self) (a .table .now) (a .text .now) nil-one (c .before .before .broken-or-nil .ensures)
 
 pub line--spec : {M : Type 1} → statement M
 line--spec = tie.close (tie.spec broken-or-nil-requires same-length returns)

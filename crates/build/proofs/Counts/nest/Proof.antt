@@ -1,6 +1,5 @@
 -- `nest`: with no node behind it.
 use borrow.Author.Needs.{needs}
-use mathlib.Core.Path.{_∙_}
 use Rattle.build.specs.Sheet.{counted}
 use Rattle.build.proofs.Hangs.{nest-alone}
 use Rattle.build.proofs.Counts.nest.Statement.{statement}
@@ -14,7 +13,7 @@ same-length c = search needs
 
 returns : tie.Need-returns
 unfolding counted
-returns c = let a = c .before .before .before .before .before .before .args in c .before .before .nest-before .ensures ∙ nest-alone (a .self) (a .table .now) (a .text .now) (a .n .0) (a .amount .0) (a .way)
+returns c = let a = c .before .before .before .before .before .before .args in nest-alone (a .self) (a .table .now) (a .text .now) (a .n .0) (a .amount .0) (a .way) (c .before .before .nest-before .ensures)
 
 pub nest-spec : {M : Type 1} → statement M
 nest-spec = tie.close (tie.spec nest-before-requires same-length returns)
