@@ -1,5 +1,6 @@
 // The block layouts, over what the constructors promise. Each part is asked of them in document 01's order; parts.rt has an
-// alternative and its Core, crate affixes Head and Tail. `format` has no `requires`, and says its whole outcome by one definition, so one outcome is possible.
+// alternative and its Core, crate affixes Head and Tail. `format` has no `requires`, and says its whole outcome by one definition, so one
+// outcome is possible.
 ghost use mathlib.Core.Path.{_≡_};
 ghost use mathlib.Core.Bool.{true};
 ghost use Prim.Native.Nat.{_+_, _-_, _<_, _≤_};
@@ -8,8 +9,8 @@ ghost use Rattle.buffer.specs.Run.{put};
 ghost use Rattle.build.specs.Sheet.{counted};
 ghost use Rattle.build.specs.Outcome.{outcome, made};
 ghost use Rattle.build.specs.Constructors.{nestRight};
-ghost use Rattle.block.specs.Block.{alternative, unions, layouts, blockOf, sizesRight, operands, least, formatMade};
 ghost use Rattle.affixes.specs.Run.{Ready, Ran};
+ghost use Rattle.block.specs.Block.{alternative, unions, layouts, blockOf, sizesRight, operands, least, formatMade};
 ghost use Rattle.block.specs.Run.{Hand, Even, Askable};
 use affixes::Shared;
 use build::Asked;
