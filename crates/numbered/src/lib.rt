@@ -1,7 +1,7 @@
-// The constructors and the block layouts by number, over words that the caller lends: what a library's exports pass on to.
+// The constructors and the block layouts by number, over words that the caller lends: which the library's exports pass on to.
 // The builder's counts are three of those words: nodes in use, text bytes in use, and the node made.
 // No public function has a `requires`. Each says its answer and every lent buffer afterwards by a definition of specs/Building.antt.
-// Here: what is exported. counts.rt: the lent counts; constructors.rt: which constructor a number makes.
+// Here: the public functions. counts.rt: the lent counts; constructors.rt: which constructor a number makes.
 use crate::constructors::any;
 use crate::constructors::known;
 use crate::counts::COUNTS_WORDS;
