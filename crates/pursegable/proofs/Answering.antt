@@ -49,31 +49,30 @@ module _ (g : Given) (n : ℕ) (r : Report) (c : rules.Report) (e : c ≡ answer
       let same : (r .answer ∷ r .place .0 ∷ r .steps ∷ r .used ∷ r .marks ∷ []) ≡ five c = cc in
       h ∙ ap (λ (l : List ℕ). told l n) same ∙ ap (λ (x : rules.Report). told (five x) n) e
 
--- a is the answer that `tell` gives
-pub records-exported : (g : Given) (n limit : ℕ) (r : Report) (a : ℕ) (out : List ℕ) (events : List Event) (work report : List ℕ)
-    → limit ≡ limitFor (g .limit) n → records.Called (limited g limit) r out events work → (a ≡ r .answer) × (report ≡ told (r .answer ∷ r .place .0 ∷ r .steps ∷ r .used ∷ r .marks ∷ []) n)
-    → Records g a out events work report n
-records-exported g n limit r a out events work report l c h =
+pub records-exported : (g : Given) (n limit : ℕ) (r : Report) (out : List ℕ) (events : List Event) (work report : List ℕ)
+    → limit ≡ limitFor (g .limit) n → records.Called (limited g limit) r out events work → report ≡ told (r .answer ∷ r .place .0 ∷ r .steps ∷ r .used ∷ r .marks ∷ []) n
+    → Records g (r .answer) out events work report n
+records-exported g n limit r out events work report l c h =
     let e : call (limited g limit) ≡ answering g n = answers g n limit l in
     record {
-      answer = h .0 ∙ c .answer ∙ ap (λ (x : rules.Report). x .answer) e;
+      answer = c .answer ∙ ap (λ (x : rules.Report). x .answer) e;
       output = c .output ∙ ap (λ (x : rules.Report). padded (x .bytes) (g .room)) e;
       events-hold = c .records ∙ ap (λ (x : rules.Report). records.noted (x .events) (g .slots)) e;
       cleared = c .cleared;
-      report-holds = told-five g n r _ e report (c .answer) (c .place) (c .steps) (c .used) (c .marks) (h .1);
+      report-holds = told-five g n r _ e report (c .answer) (c .place) (c .steps) (c .used) (c .marks) h;
     }
 
-pub words-exported : (g : Given) (n m limit : ℕ) (r : Report) (a : ℕ) (out events work report : List ℕ)
-    → limit ≡ limitFor (g .limit) n → words.Called (limited g limit) m r out events work → (a ≡ r .answer) × (report ≡ told (r .answer ∷ r .place .0 ∷ r .steps ∷ r .used ∷ r .marks ∷ []) n)
-    → Words m g a out events work report n
-words-exported g n m limit r a out events work report l c h =
+pub words-exported : (g : Given) (n m limit : ℕ) (r : Report) (out events work report : List ℕ)
+    → limit ≡ limitFor (g .limit) n → words.Called (limited g limit) m r out events work → report ≡ told (r .answer ∷ r .place .0 ∷ r .steps ∷ r .used ∷ r .marks ∷ []) n
+    → Words m g (r .answer) out events work report n
+words-exported g n m limit r out events work report l c h =
     let e : call (limited g limit) ≡ answering g n = answers g n limit l in
     record {
-      answer = h .0 ∙ c .answer ∙ ap (λ (x : rules.Report). x .answer) e;
+      answer = c .answer ∙ ap (λ (x : rules.Report). x .answer) e;
       output = c .output ∙ ap (λ (x : rules.Report). padded (x .bytes) (g .room)) e;
       events-hold = c .noted ∙ ap (λ (x : rules.Report). padded (wordsOf (x .events)) m) e;
       cleared = c .cleared;
-      report-holds = told-five g n r _ e report (c .answer) (c .place) (c .steps) (c .used) (c .marks) (h .1);
+      report-holds = told-five g n r _ e report (c .answer) (c .place) (c .steps) (c .used) (c .marks) h;
     }
 
 -- ---- filling the report

@@ -31,13 +31,13 @@ fn limit_for(limit: u32, words: usize) -> u32
     limit
 }
 
-// Fills the report, where there is room for it; the rest of its words are zero. Gives the answer.
-fn tell(r: Report, report: &mut [u32]) -> u32
-    ensures { λ a. ⌜ (a ≡ r .answer) × (now (report .exit) ≡ told (r .answer ∷ r .place .0 ∷ r .steps ∷ r .used ∷ r .marks ∷ []) (length (now (report .entry)))) ⌝ }
+// Fills the report, where there is room for it; the rest of its words are zero.
+fn tell(r: Report, report: &mut [u32])
+    ensures { λ _. ⌜ now (report .exit) ≡ told (r .answer ∷ r .place .0 ∷ r .steps ∷ r .used ∷ r .marks ∷ []) (length (now (report .entry))) ⌝ }
 {
     buffer::clear_words(report);
     if report.len() < REPORT_WORDS {
-        return r.answer;
+        return;
     }
     let place = r.place;
     report[0] = r.answer;
@@ -45,7 +45,6 @@ fn tell(r: Report, report: &mut [u32]) -> u32
     report[2] = r.steps;
     report[3] = r.used;
     report[4] = r.marks;
-    r.answer
 }
 
 // Lays a table out at a width, with a step limit. The answer is returned, and is the report's first word.
@@ -65,7 +64,8 @@ pub extern "C" fn pursegable_layout(
     let words = report.len();
     let limit = limit_for(limit, words);
     let r = events::layout(table, text, width, limit, out, events, work);
-    tell(r, report)
+    tell(r, report);
+    r.answer
 }
 
 // The whole sheet, at the default width and step limit.
@@ -132,5 +132,6 @@ pub extern "C" fn pursegable_layout_words(
 {
     let limit = limit_for(limit, report.len());
     let r = sheet::layout(table, text, width, limit, out, events, work);
-    tell(r, report)
+    tell(r, report);
+    r.answer
 }

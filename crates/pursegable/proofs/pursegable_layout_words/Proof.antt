@@ -33,7 +33,7 @@ returns c =
     let a = c .before .before .before .before .before .before .before .before .before .before .before .before .before .before .before .before .before .before .before .before .before .args in
     words-exported
     (given (a .table .now) (a .text .now) (a .width) (a .limit) (length (a .out .now)) (length (a .events .now)) (length (a .work .now)))
-    (length (a .report .now)) (length (a .events .now)) _ _ _ _ _ _ _
+    (length (a .report .now)) (length (a .events .now)) _ _ _ _ _ _
     (c .before .before .before .before .before .before .before .before .before .before .before .before .before .before .limit-for .ensures) (c .before .before .before .before .before .before .before .before .before .before .layout .ensures) (c .before .before .tell .ensures)
 
 pub pursegable-layout-words-spec : {M : Type 1} → statement M

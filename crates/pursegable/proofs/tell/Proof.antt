@@ -2,7 +2,6 @@
 -- Assumes nothing.
 use borrow.Author.Needs.{needs}
 use native.Mathlib.Omega.{arith}
-use mathlib.Core.Path.{refl}
 use mathlib.Core.List.{[], _∷_}
 use lib.ListN.{length, length-set}
 use Rattle.pursegable.proofs.Answering.{told-none, told-set}
@@ -16,7 +15,7 @@ same-length : tie.Need-same-length
 same-length c = search needs
 
 returns : tie.Need-returns
-returns c = (refl, told-none _ (length (c .before .before .before .before .before .before .args .report .now)) (c .before .before .before .before .before .before .args .r .answer ∷ c .before .before .before .before .before .before .args .r .place .0 ∷ c .before .before .before .before .before .before .args .r .steps ∷ c .before .before .before .before .before .before .args .r .used ∷ c .before .before .before .before .before .before .args .r .marks ∷ []) (c .before .before .before .clear-words .ensures) (c .if1 .taken))
+returns c = told-none _ (length (c .before .before .before .before .before .before .args .report .now)) (c .before .before .before .before .before .before .args .r .answer ∷ c .before .before .before .before .before .before .args .r .place .0 ∷ c .before .before .before .before .before .before .args .r .steps ∷ c .before .before .before .before .before .before .args .r .used ∷ c .before .before .before .before .before .before .args .r .marks ∷ []) (c .before .before .before .clear-words .ensures) (c .if1 .taken)
 
 slice-write-report : tie.Need-slice-write-report
 slice-write-report c = search needs
@@ -37,7 +36,7 @@ same-length-2 : tie.Need-same-length-2
 same-length-2 c = search needs
 
 returns-2 : tie.Need-returns-2
-returns-2 c = (refl, told-set _ (length (c .before .before .before .before .before .before .before .args .report .now)) _ _ _ _ _ (c .before .before .before .before .clear-words .ensures) (c .before .if1 .left))
+returns-2 c = told-set _ (length (c .before .before .before .before .before .before .before .args .report .now)) _ _ _ _ _ (c .before .before .before .before .clear-words .ensures) (c .before .if1 .left)
 
 pub tell-spec : {M : Type 1} → statement M
 tell-spec =
