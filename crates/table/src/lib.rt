@@ -5,7 +5,7 @@ ghost use mathlib.Core.Path.{_≡_};
 ghost use mathlib.Core.Bool.{true};
 ghost use mathlib.Core.List.{List};
 ghost use Prim.Native.Nat.{ℕ, _+_, _*_, _/_, _≤_, _<_};
-ghost use lib.ListN.{length};
+ghost use lib.ListN.{length, getD};
 ghost use Rattle.table.specs.Kinds.{kinds, kindAt};
 ghost use Rattle.utf8.specs.Utf8.{ascii};
 ghost use Rattle.table.specs.Parts.{Tells, textFault};
@@ -229,9 +229,9 @@ fn node_fault(
     0
 }
 
-// What is wrong with node n: 0, or the first of 2, 3, 4, 5.
-fn fault_at(table: &[u32], text: &[u8], plain: bool, infos: [KindInfo; 11], n: NodeNo) -> u32
-    requires { ⌜ (plain ≡ ascii (now text)) × (n .0 * 4 + 4 ≤ length (now table)) × (length (now table) ≤ 4096) × (infos ≡ kinds) ⌝ }
+// What is wrong with node n, whose kind is known: 0, or the first of 2, 3, 4, 5.
+fn fault_at(table: &[u32], text: &[u8], plain: bool, info: KindInfo, n: NodeNo) -> u32
+    requires { ⌜ (plain ≡ ascii (now text)) × (n .0 * 4 + 4 ≤ length (now table)) × (length (now table) ≤ 4096) × (getD (now table) (n .0 * 4) 0 < 11) × (info ≡ kindAt (getD (now table) (n .0 * 4) 0)) ⌝ }
     ensures { λ r. ⌜ r ≡ faultAt (now (table .entry)) (now (text .entry)) (n .0) ⌝ }
 {
     let at = n.0 as usize * 4;
@@ -242,29 +242,28 @@ fn fault_at(table: &[u32], text: &[u8], plain: bool, infos: [KindInfo; 11], n: N
     if plainly_right(n, k, a, b, c) {
         return 0;
     }
-    if 11 <= k {
-        return 2;
-    }
-    node_fault(text, plain, infos[k as usize], n, k, a, b, c)
+    node_fault(text, plain, info, n, k, a, b, c)
 }
 
 // ---- the whole table
 
-// The first fault of the nodes from 0 up, unreachable ones too.
+// The first fault of the nodes from 0 up, unreachable ones too. The kinds are read here: lent by value they would be copied for each node.
 fn first_fault(table: &[u32], text: &[u8], plain: bool) -> Fault
     requires { ⌜ (plain ≡ ascii (now text)) × (length (now table) ≤ 4096) ⌝ }
     ensures { λ r. ⌜ Tells r (firstFault (now (table .entry)) (now (text .entry)) (length (now (table .entry)) / 4)) ⌝ }
 {
     let kinds = all_kinds();
-    let nodes = (table.len() / 4) as u32;
+    let nodes = table.len() / 4;
     let mut n = 0;
     while n < nodes {
-        let answer = fault_at(table, text, plain, kinds, NodeNo(n));
+        let place = NodeNo(n as u32);
+        let k = table[n * 4];
+        if 11 <= k {
+            return Fault { answer: 2, place };
+        }
+        let answer = fault_at(table, text, plain, kinds[k as usize], place);
         if answer != 0 {
-            return Fault {
-                answer,
-                place: NodeNo(n),
-            };
+            return Fault { answer, place };
         }
         n += 1;
     }

@@ -1,13 +1,7 @@
 -- `table::fault_at` meets its contract. Assumes nothing.
 use borrow.Author.Needs.{needs}
-use native.Mathlib.Omega.{arith}
-use mathlib.Core.Path.{sym, ap}
-use Prim.Native.Nat.{_*_}
-use mathlib.Core.List.{List}
-use lib.ListN.{getD}
-use Rattle.table.specs.declared.KindInfo.{KindInfo}
-use Rattle.table.specs.Kinds.{kind, kindAt}
-use Rattle.table.proofs.Answers.{fault-unknown, fault-read}
+use mathlib.Core.Path.{sym}
+use Rattle.table.proofs.Answers.{fault-read}
 use Rattle.table.proofs.fault_at.Statement.{statement}
 use Rattle.table.proofs.fault_at.Tie as tie
 
@@ -61,33 +55,12 @@ returns c =
     let n = a .n .0 in
     sym (fault-read table text n 0 (sym (c .before .plainly-right .ensures (c .if1 .taken) text)))
 
+node-fault-requires : tie.Need-node-fault-requires
+node-fault-requires c κs = search needs
+
 returns-2 : tie.Need-returns-2
 returns-2 c =
     let a = c .before .before .before .before .before .before .before .before .before .before .args in
-    let table = a .table .now in
-    let text = a .text .now in
-    let n = a .n .0 in
-    sym (fault-read table text n 2 (fault-unknown text n (getD table (n * 4) 0) _ _ _ (c .if2 .taken)))
-
-cast-node-fault : tie.Need-cast-node-fault
-cast-node-fault c = search needs
-
-mul-node-fault : tie.Need-mul-node-fault
-mul-node-fault c = search needs
-
-array-copy-out-node-fault : tie.Need-array-copy-out-node-fault
-array-copy-out-node-fault c = search needs
-
-node-fault-requires : tie.Need-node-fault-requires
-unfolding kindAt
-node-fault-requires c κs =
-    let s = c .before .before .before .before .before .before .before .before .before .before .before in
-    let k = getD (s .args .table .now) (s .args .n .0 * 4) 0 in
-    (s .pre .0, omega arith, ap (λ (t : List KindInfo). getD t k (kind 0 0)) (s .pre .3))
-
-returns-3 : tie.Need-returns-3
-returns-3 c =
-    let a = c .before .before .before .before .before .before .before .before .before .before .before .before .args in
     let table = a .table .now in
     let text = a .text .now in
     let n = a .n .0 in
@@ -112,9 +85,5 @@ fault-at-spec =
     shared-slice-read-c
     plainly-right-requires
     returns
-    returns-2
-    cast-node-fault
-    mul-node-fault
-    array-copy-out-node-fault
     node-fault-requires
-    returns-3)
+    returns-2)
