@@ -25,7 +25,7 @@ impl Counts {
         self.text(table, text, b" ", Column(1))
     }
 
-    // A Hardline or a blank, of so many nodes that are asked for with the Hardline.
+    // A Hardline or a blank; the Hardline asks for so many nodes, so that a softline's Group can be among them.
     fn broken_or_blank(self, table: &mut [u32], text: &mut [u8], nodes: usize) -> Made
         requires { ⌜ 3 ≤ nodes ⌝ }
         ensures { λ r. ⌜ outcome r (now (table .exit)) (now (text .exit)) ≡ settled (asked self (length (now (table .entry))) (length (now (text .entry))) true true true (self .nodes + nodes) (self .bytes + 1)) (line (counted self (now (table .entry)) (now (text .entry)))) (now (table .entry)) (now (text .entry)) ⌝ }
@@ -38,7 +38,7 @@ impl Counts {
         or_flat(made, table, text, broken)
     }
 
-    // A Hardline or a Nil, likewise.
+    // The same with a Nil for the blank.
     fn broken_or_nil(self, table: &mut [u32], text: &[u8], nodes: usize) -> Made
         requires { ⌜ 3 ≤ nodes ⌝ }
         ensures { λ r. ⌜ outcome r (now (table .exit)) (now (text .entry)) ≡ settled (asked self (length (now (table .entry))) (length (now (text .entry))) true true true (self .nodes + nodes) (self .bytes + 0)) (line₀ (counted self (now (table .entry)) (now (text .entry)))) (now (table .entry)) (now (text .entry)) ⌝ }
@@ -142,7 +142,7 @@ impl Counts {
     }
 }
 
-// FlatAlt of a node and what was made.
+// FlatAlt of a node and what was made; a refusal is handed on, here and below.
 fn or_flat(made: Made, table: &mut [u32], text: &[u8], broken: NodeNo) -> Made
     ensures { λ r. ⌜ outcome r (now (table .exit)) (now (text .entry)) ≡ onward made (now (table .entry)) (now (text .entry)) (λ c n. flatAltMade c (now (table .entry)) (now (text .entry)) (broken .0) n) ⌝ }
 {

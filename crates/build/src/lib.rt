@@ -1,6 +1,6 @@
 // The constructors: each adds nodes to the lent table and bytes to the lent text, or refuses and leaves both as they were.
 // No public method has a `requires`. Each says its whole outcome by a definition of specs/Constructors.antt, so one outcome is possible.
-// Here: what is asked before anything is added, and reading the counted nodes. node.rt: one node; composed.rt: several; lists.rt: lists of nodes.
+// Here: what is asked before anything is added, reading the counted nodes, and the parts that ask for a whole. node.rt: one node; composed.rt: several; lists.rt: lists of nodes.
 ghost use mathlib.Core.Path.{_≡_};
 ghost use mathlib.Core.Bool.{true, _&&_, _||_};
 ghost use mathlib.Core.List.{[], _∷_, _++_};
@@ -106,6 +106,7 @@ impl Counts {
     pub fn ask(self, words: usize, bytes: usize, asks: Asks) -> Asked
         ensures { λ r. ⌜ r ≡ asked self words bytes (asks .present) (asks .amount) (asks .text) (self .nodes + asks .nodes) (self .bytes + asks .bytes) ⌝ }
     {
+        // what the test below it would refuse for
         let mut why = Why::Sizes;
         if words / 4 < self.nodes as usize {
             return Asked::Denied(why);
@@ -214,7 +215,7 @@ impl Counts {
         )
     }
 
-    // A node of these words, the first of so many that are asked for with so many bytes.
+    // A node of these words, which asks for all of a whole that it is the first part of: so many nodes and bytes, itself among them.
     fn node(
         self,
         table: &mut [u32],
@@ -248,7 +249,7 @@ impl Counts {
         self.add(table, k, a, b, c)
     }
 
-    // An older node, given back, where so many nodes more fit into a table and a text of these lengths.
+    // An older node, given back, which asks for so many nodes more over a table and a text of these lengths.
     fn older(
         self,
         words: usize,
@@ -284,7 +285,7 @@ impl Counts {
         self.is_nil(table, n) || amount.0 == 0
     }
 
-    // A Nest that is asked for with so many nodes behind it.
+    // A Nest, which asks for so many nodes behind it too.
     fn nest_before(
         self,
         table: &mut [u32],

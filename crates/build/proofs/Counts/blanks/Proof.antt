@@ -16,7 +16,9 @@ array-share-prefix-blanks : tie.Need-array-share-prefix-blanks
 array-share-prefix-blanks c = c .before .before .before .before .before .pre
 
 slice-aggregate-text : tie.Need-slice-aggregate-text
-slice-aggregate-text c = let a = c .before .before .before .before .before .before .args in sym (ap length (take-replicate (a .by .0) 1000 32 (c .before .before .before .before .before .before .pre)) ∙ length-replicate {A = ℕ} (a .by .0) 32)
+slice-aggregate-text c =
+    let a = c .before .before .before .before .before .before .args in
+    sym (ap length (take-replicate (a .by .0) 1000 32 (c .before .before .before .before .before .before .pre)) ∙ length-replicate {A = ℕ} (a .by .0) 32)
 
 text-requires : tie.Need-text-requires
 text-requires c κs = search needs
@@ -28,7 +30,18 @@ same-length-2 : tie.Need-same-length-2
 same-length-2 c = search needs
 
 returns : tie.Need-returns
-returns c = let a = c .before .before .before .before .before .before .before .before .before .before .before .args in c .before .before .before .before .text .ensures ∙ ap (λ (l : List ℕ). textMade (a .self) (a .table .now) (a .text .now) l (a .by .0)) (take-replicate (a .by .0) 1000 32 (c .before .before .before .before .before .before .before .before .before .before .before .pre))
+returns c =
+    let a = c .before .before .before .before .before .before .before .before .before .before .before .args in
+    c .before .before .before .before .text .ensures ∙ ap (λ (l : List ℕ). textMade (a .self) (a .table .now) (a .text .now) l (a .by .0)) (take-replicate (a .by .0) 1000 32 (c .before .before .before .before .before .before .before .before .before .before .before .pre))
 
 pub blanks-spec : {M : Type 1} → statement M
-blanks-spec = tie.close (tie.spec cast-blanks array-share-prefix-blanks slice-aggregate-text text-requires same-length same-length-2 returns)
+blanks-spec =
+    tie.close
+    (tie.spec
+    cast-blanks
+    array-share-prefix-blanks
+    slice-aggregate-text
+    text-requires
+    same-length
+    same-length-2
+    returns)

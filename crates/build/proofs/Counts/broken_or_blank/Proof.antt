@@ -23,7 +23,9 @@ same-length-2 c = search needs
 
 returns : tie.Need-returns
 unfolding line
-returns c = let a = c .before .before .before .before .before .before .before .before .before .args in line-refused (a .self) (a .table .now) (a .text .now) space-one (a .nodes) (c .before .before .before .before .before .before .before .before .before .pre) (c .before .before .before .before .node .ensures) (c .enum-told .given .1)
+returns c =
+    let a = c .before .before .before .before .before .before .before .before .before .args in
+    line-refused (a .self) (a .table .now) (a .text .now) space-one (a .nodes) (c .before .before .before .before .before .before .before .before .before .pre) (c .before .before .before .before .node .ensures) (c .enum-told .given .1)
 
 space-requires : tie.Need-space-requires
 space-requires c κs = search needs
@@ -39,7 +41,22 @@ same-length-4 c = search needs
 
 returns-2 : tie.Need-returns-2
 unfolding line
-returns-2 c = let a = c .before .before .before .before .before .before .before .before .before .before .before .before .before .before .before .before .before .before .before .before .before .before .args in line-made (a .self) (a .table .now) (a .text .now) space-one (a .nodes) (c .before .before .before .before .before .before .before .before .before .before .before .before .before .before .before .before .before .before .before .before .before .before .pre) (c .before .before .before .before .before .before .before .before .before .before .before .before .before .before .before .before .before .node .ensures) (c .before .before .before .before .before .before .before .before .before .before .before .before .before .made .given .1) _ _ _ (c .before .before .before .before .before .before .before .before .before .space .ensures) (c .before .before .or-flat .ensures)
+returns-2 c =
+    let a = c .before .before .before .before .before .before .before .before .before .before .before .before .before .before .before .before .before .before .before .before .before .before .args in
+    line-made (a .self) (a .table .now) (a .text .now) space-one (a .nodes) (c .before .before .before .before .before .before .before .before .before .before .before .before .before .before .before .before .before .before .before .before .before .before .pre) (c .before .before .before .before .before .before .before .before .before .before .before .before .before .before .before .before .before .node .ensures) (c .before .before .before .before .before .before .before .before .before .before .before .before .before .made .given .1) _ _ _ (c .before .before .before .before .before .before .before .before .before .space .ensures) (c .before .before .or-flat .ensures)
 
 pub broken-or-blank-spec : {M : Type 1} → statement M
-broken-or-blank-spec = tie.close (tie.spec node-requires enum-known-made enum-told same-length same-length-2 returns space-requires or-flat-requires same-length-3 same-length-4 returns-2)
+broken-or-blank-spec =
+    tie.close
+    (tie.spec
+    node-requires
+    enum-known-made
+    enum-told
+    same-length
+    same-length-2
+    returns
+    space-requires
+    or-flat-requires
+    same-length-3
+    same-length-4
+    returns-2)

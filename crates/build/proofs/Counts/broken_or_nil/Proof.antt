@@ -20,7 +20,9 @@ same-length c = search needs
 
 returns : tie.Need-returns
 unfolding line₀
-returns c = let a = c .before .before .before .before .before .before .before .before .args in line-refused (a .self) (a .table .now) (a .text .now) nil-one (a .nodes) (c .before .before .before .before .before .before .before .before .pre) (c .before .before .before .before .node .ensures) (c .enum-told .given .1)
+returns c =
+    let a = c .before .before .before .before .before .before .before .before .args in
+    line-refused (a .self) (a .table .now) (a .text .now) nil-one (a .nodes) (c .before .before .before .before .before .before .before .before .pre) (c .before .before .before .before .node .ensures) (c .enum-told .given .1)
 
 nil-requires : tie.Need-nil-requires
 nil-requires c κs = search needs
@@ -33,7 +35,20 @@ same-length-2 c = search needs
 
 returns-2 : tie.Need-returns-2
 unfolding line₀
-returns-2 c = let a = c .before .before .before .before .before .before .before .before .before .before .before .before .before .before .before .before .before .args in line-made (a .self) (a .table .now) (a .text .now) nil-one (a .nodes) (c .before .before .before .before .before .before .before .before .before .before .before .before .before .before .before .before .before .pre) (c .before .before .before .before .before .before .before .before .before .before .before .before .before .node .ensures) (c .before .before .before .before .before .before .before .before .before .made .given .1) _ _ _ (c .before .before .before .before .before .before .nil .ensures) (c .before .before .or-flat .ensures)
+returns-2 c =
+    let a = c .before .before .before .before .before .before .before .before .before .before .before .before .before .before .before .before .before .args in
+    line-made (a .self) (a .table .now) (a .text .now) nil-one (a .nodes) (c .before .before .before .before .before .before .before .before .before .before .before .before .before .before .before .before .before .pre) (c .before .before .before .before .before .before .before .before .before .before .before .before .before .node .ensures) (c .before .before .before .before .before .before .before .before .before .made .given .1) _ _ _ (c .before .before .before .before .before .before .nil .ensures) (c .before .before .or-flat .ensures)
 
 pub broken-or-nil-spec : {M : Type 1} → statement M
-broken-or-nil-spec = tie.close (tie.spec node-requires enum-known-made enum-told same-length returns nil-requires or-flat-requires same-length-2 returns-2)
+broken-or-nil-spec =
+    tie.close
+    (tie.spec
+    node-requires
+    enum-known-made
+    enum-told
+    same-length
+    returns
+    nil-requires
+    or-flat-requires
+    same-length-2
+    returns-2)

@@ -22,7 +22,9 @@ same-length : tie.Need-same-length Inv-loop μ-loop
 same-length c = search needs
 
 returns : tie.Need-returns Inv-loop μ-loop
-returns c = let a = c .before .before .before .before .before .before .before .before .args in c .before .before .nil .ensures ∙ concat-none (a .self) (a .table .now) (a .text .now) (a .nodes .now) (c .before .before .before .before .if1 .taken)
+returns c =
+    let a = c .before .before .before .before .before .before .before .before .args in
+    c .before .before .nil .ensures ∙ concat-none (a .self) (a .table .now) (a .text .now) (a .nodes .now) (c .before .before .before .before .if1 .taken)
 
 has-all-requires : tie.Need-has-all-requires Inv-loop μ-loop
 has-all-requires c κs = search needs
@@ -58,13 +60,38 @@ loop-less : tie.Need-loop-less Inv-loop μ-loop
 loop-less c = search needs
 
 loop-again : tie.Need-loop-again Inv-loop μ-loop
-loop-again c = let a = c .before .before .before .before .before .before .before .before .before .before .before .before .before .before .before .before .before .args in (omega arith, omega arith, c .before .before .appended .kept .1 .0 ∙ c .before .before .before .before .before .before .loop .inv .2, concat-turn (c .before .before .before .before .before .before .loop .made) (c .before .before .before .before .before .before .loop .table) (a .text .now) (a .nodes .now) (c .before .before .before .before .before .before .loop .i) (c .before .before .before .before .before .loop-test .taken) (c .before .before .appended .ensures) ∙ c .before .before .before .before .before .before .loop .inv .3)
+loop-again c =
+    let a = c .before .before .before .before .before .before .before .before .before .before .before .before .before .before .before .before .before .args in
+    (omega arith, omega arith, c .before .before .appended .kept .1 .0 ∙ c .before .before .before .before .before .before .loop .inv .2, concat-turn (c .before .before .before .before .before .before .loop .made) (c .before .before .before .before .before .before .loop .table) (a .text .now) (a .nodes .now) (c .before .before .before .before .before .before .loop .i) (c .before .before .before .before .before .loop-test .taken) (c .before .before .appended .ensures) ∙ c .before .before .before .before .before .before .loop .inv .3)
 
 same-length-2 : tie.Need-same-length-2 Inv-loop μ-loop
 same-length-2 c = c .before .loop .inv .2
 
 returns-2 : tie.Need-returns-2 Inv-loop μ-loop
-returns-2 c = let a = c .before .before .before .before .before .before .before .before .before .before .before .before .args in concat-end (a .nodes .now) (c .before .loop .i) (c .loop-test .left) ∙ c .before .loop .inv .3 ∙ concat-made (a .self) (a .table .now) (a .text .now) (a .nodes .now) (let n = c .before .before .before .before .before .before .before .before .if1 .left in omega (arith, n)) (rw (c .before .before .before .before .before .before .before .has-all .ensures, c .before .before .before .before .less-one .ensures, c .before .before .before .before .before .solid .ensures) at (c .before .before .older .ensures))
+returns-2 c =
+    let a = c .before .before .before .before .before .before .before .before .before .before .before .before .args in
+    concat-end (a .nodes .now) (c .before .loop .i) (c .loop-test .left) ∙ c .before .loop .inv .3 ∙ concat-made (a .self) (a .table .now) (a .text .now) (a .nodes .now) (let n = c .before .before .before .before .before .before .before .before .if1 .left in omega (arith, n)) (rw (c .before .before .before .before .before .before .before .has-all .ensures, c .before .before .before .before .less-one .ensures, c .before .before .before .before .before .solid .ensures) at (c .before .before .older .ensures))
 
 pub concat-spec : {M : Type 1} → statement M
-concat-spec = tie.close (tie.spec Inv-loop μ-loop nil-requires same-length returns has-all-requires solid-requires less-one-requires shared-slice-read-t17 older-requires loop-holds mul-t19 shared-slice-read-t24 appended-requires add-i loop-less loop-again same-length-2 returns-2)
+concat-spec =
+    tie.close
+    (tie.spec
+    Inv-loop
+    μ-loop
+    nil-requires
+    same-length
+    returns
+    has-all-requires
+    solid-requires
+    less-one-requires
+    shared-slice-read-t17
+    older-requires
+    loop-holds
+    mul-t19
+    shared-slice-read-t24
+    appended-requires
+    add-i
+    loop-less
+    loop-again
+    same-length-2
+    returns-2)

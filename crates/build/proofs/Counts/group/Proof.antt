@@ -24,7 +24,10 @@ same-length c = search needs
 
 returns : tie.Need-returns
 unfolding counted
-returns c = let a = c .before .before .before .before .before .before .before .args in let p = c .before .before .before .before .has .result in simp (← (c .before .before .before .before .has .ensures)) (given-back (a .self) (a .table .now) (a .text .now) p true (a .n) (c .older .ensures) ∙ sym (made-same (a .self) (a .table .now) (a .text .now) p true true (λ s. group s (a .n .0)) (λ s. older s (a .n .0)) (group-stays (counted (a .self) (a .table .now) (a .text .now)) (a .n .0) (sym (c .before .before .stays .ensures) ∙ c .before .if1 .taken))))
+returns c =
+    let a = c .before .before .before .before .before .before .before .args in
+    let p = c .before .before .before .before .has .result in
+    simp (← (c .before .before .before .before .has .ensures)) (given-back (a .self) (a .table .now) (a .text .now) p true (a .n) (c .older .ensures) ∙ sym (made-same (a .self) (a .table .now) (a .text .now) p true true (λ s. group s (a .n .0)) (λ s. older s (a .n .0)) (group-stays (counted (a .self) (a .table .now) (a .text .now)) (a .n .0) (sym (c .before .before .stays .ensures) ∙ c .before .if1 .taken))))
 
 node-requires : tie.Need-node-requires
 node-requires c κs = search needs
@@ -34,7 +37,20 @@ same-length-2 c = search needs
 
 returns-2 : tie.Need-returns-2
 unfolding counted
-returns-2 c = let a = c .before .before .before .before .before .before .before .before .before .before .args in let p = c .before .before .before .before .before .before .before .has .result in simp (← (c .before .before .before .before .before .before .before .has .ensures)) (node-alone (a .self) (a .table .now) (a .text .now) p true 2 (a .n .0) 0 0 (c .before .before .node .ensures) ∙ sym (made-same (a .self) (a .table .now) (a .text .now) p true true (λ s. group s (a .n .0)) (λ s. add s 2 (a .n .0) 0 0) (group-wraps (counted (a .self) (a .table .now) (a .text .now)) (a .n .0) (sym (c .before .before .before .before .before .stays .ensures) ∙ c .before .before .before .before .if1 .left))))
+returns-2 c =
+    let a = c .before .before .before .before .before .before .before .before .before .before .args in
+    let p = c .before .before .before .before .before .before .before .has .result in
+    simp (← (c .before .before .before .before .before .before .before .has .ensures)) (node-alone (a .self) (a .table .now) (a .text .now) p true 2 (a .n .0) 0 0 (c .before .before .node .ensures) ∙ sym (made-same (a .self) (a .table .now) (a .text .now) p true true (λ s. group s (a .n .0)) (λ s. add s 2 (a .n .0) 0 0) (group-wraps (counted (a .self) (a .table .now) (a .text .now)) (a .n .0) (sym (c .before .before .before .before .before .stays .ensures) ∙ c .before .before .before .before .if1 .left))))
 
 pub group-spec : {M : Type 1} → statement M
-group-spec = tie.close (tie.spec has-requires stays-requires older-requires same-length returns node-requires same-length-2 returns-2)
+group-spec =
+    tie.close
+    (tie.spec
+    has-requires
+    stays-requires
+    older-requires
+    same-length
+    returns
+    node-requires
+    same-length-2
+    returns-2)

@@ -12,7 +12,9 @@ same-length : tie.Need-same-length
 same-length c = search needs
 
 returns : tie.Need-returns
-returns c = let a = c .before .before .before .before .before .before .args in node-alone (a .self) (a .table .now) (a .text .now) true true 5 0 0 0 (c .before .before .node .ensures)
+returns c =
+    let a = c .before .before .before .before .before .before .args in
+    node-alone (a .self) (a .table .now) (a .text .now) true true 5 0 0 0 (c .before .before .node .ensures)
 
 pub hardline-spec : {M : Type 1} → statement M
 hardline-spec = tie.close (tie.spec node-requires same-length returns)

@@ -28,7 +28,9 @@ same-length : tie.Need-same-length Inv-loop μ-loop
 same-length c = search needs
 
 returns : tie.Need-returns Inv-loop μ-loop
-returns c = let a = c .before .before .before .before .before .before .before .before .before .args in node-alone (a .self) (a .table .now) (a .text .now) _ true 0 0 0 0 (rw (c .before .before .before .before .before .has-with .ensures) at (c .before .before .node .ensures)) ∙ intersperse-none (a .self) (a .table .now) (a .text .now) (a .separator .0) (a .nodes .now) (c .before .before .before .before .if1 .taken)
+returns c =
+    let a = c .before .before .before .before .before .before .before .before .before .args in
+    node-alone (a .self) (a .table .now) (a .text .now) _ true 0 0 0 0 (rw (c .before .before .before .before .before .has-with .ensures) at (c .before .before .node .ensures)) ∙ intersperse-none (a .self) (a .table .now) (a .text .now) (a .separator .0) (a .nodes .now) (c .before .before .before .before .if1 .taken)
 
 separated-adds-requires : tie.Need-separated-adds-requires Inv-loop μ-loop
 separated-adds-requires c κs = let n = c .before .if1 .left in omega (arith, n)
@@ -61,13 +63,38 @@ loop-less : tie.Need-loop-less Inv-loop μ-loop
 loop-less c = search needs
 
 loop-again : tie.Need-loop-again Inv-loop μ-loop
-loop-again c = let a = c .before .before .before .before .before .before .before .before .before .before .before .before .before .before .before .before .before .before .before .before .args in (omega arith, omega arith, c .before .before .appended2 .kept .1 .0 ∙ c .before .before .before .before .before .before .before .appended .kept .1 .0 ∙ c .before .before .before .before .before .before .before .before .before .before .loop .inv .2, intersperse-turn (c .before .before .before .before .before .before .before .before .before .before .loop .made) (c .before .before .before .before .before .before .before .appended .result) (c .before .before .before .before .before .before .before .before .before .before .loop .table) _ (a .text .now) (a .separator .0) (a .nodes .now) (c .before .before .before .before .before .before .before .before .before .before .loop .i) (c .before .before .before .before .before .before .before .before .before .loop-test .taken) (c .before .before .before .before .before .before .before .appended .ensures) (c .before .before .appended2 .ensures) ∙ c .before .before .before .before .before .before .before .before .before .before .loop .inv .3)
+loop-again c =
+    let a = c .before .before .before .before .before .before .before .before .before .before .before .before .before .before .before .before .before .before .before .before .args in
+    (omega arith, omega arith, c .before .before .appended2 .kept .1 .0 ∙ c .before .before .before .before .before .before .before .appended .kept .1 .0 ∙ c .before .before .before .before .before .before .before .before .before .before .loop .inv .2, intersperse-turn (c .before .before .before .before .before .before .before .before .before .before .loop .made) (c .before .before .before .before .before .before .before .appended .result) (c .before .before .before .before .before .before .before .before .before .before .loop .table) _ (a .text .now) (a .separator .0) (a .nodes .now) (c .before .before .before .before .before .before .before .before .before .before .loop .i) (c .before .before .before .before .before .before .before .before .before .loop-test .taken) (c .before .before .before .before .before .before .before .appended .ensures) (c .before .before .appended2 .ensures) ∙ c .before .before .before .before .before .before .before .before .before .before .loop .inv .3)
 
 same-length-2 : tie.Need-same-length-2 Inv-loop μ-loop
 same-length-2 c = c .before .loop .inv .2
 
 returns-2 : tie.Need-returns-2 Inv-loop μ-loop
-returns-2 c = let a = c .before .before .before .before .before .before .before .before .before .before .before .args in intersperse-end (a .separator .0) (a .nodes .now) (c .before .loop .i) (c .loop-test .left) ∙ c .before .loop .inv .3 ∙ intersperse-made (a .separator .0) (a .nodes .now) (let n = c .before .before .before .before .before .before .if1 .left in omega (arith, n)) (a .self) (a .table .now) (a .text .now) (rw (c .before .before .before .before .before .before .before .has-with .ensures, c .before .before .before .before .separated-adds .ensures) at (c .before .before .older .ensures))
+returns-2 c =
+    let a = c .before .before .before .before .before .before .before .before .before .before .before .args in
+    intersperse-end (a .separator .0) (a .nodes .now) (c .before .loop .i) (c .loop-test .left) ∙ c .before .loop .inv .3 ∙ intersperse-made (a .separator .0) (a .nodes .now) (let n = c .before .before .before .before .before .before .if1 .left in omega (arith, n)) (a .self) (a .table .now) (a .text .now) (rw (c .before .before .before .before .before .before .before .has-with .ensures, c .before .before .before .before .separated-adds .ensures) at (c .before .before .older .ensures))
 
 pub intersperse-spec : {M : Type 1} → statement M
-intersperse-spec = tie.close (tie.spec Inv-loop μ-loop has-with-requires node-requires same-length returns separated-adds-requires shared-slice-read-t18 older-requires loop-holds appended-requires mul-t20 shared-slice-read-t27 appended-requires-2 add-i loop-less loop-again same-length-2 returns-2)
+intersperse-spec =
+    tie.close
+    (tie.spec
+    Inv-loop
+    μ-loop
+    has-with-requires
+    node-requires
+    same-length
+    returns
+    separated-adds-requires
+    shared-slice-read-t18
+    older-requires
+    loop-holds
+    appended-requires
+    mul-t20
+    shared-slice-read-t27
+    appended-requires-2
+    add-i
+    loop-less
+    loop-again
+    same-length-2
+    returns-2)

@@ -13,7 +13,9 @@ same-length c = search needs
 
 returns : tie.Need-returns
 unfolding line₀
-returns c = let a = c .before .before .before .before .before .before .args in line-alone (a .self) (a .table .now) (a .text .now) nil-one (c .before .before .broken-or-nil .ensures)
+returns c =
+    let a = c .before .before .before .before .before .before .args in
+    line-alone (a .self) (a .table .now) (a .text .now) nil-one (c .before .before .broken-or-nil .ensures)
 
 pub line--spec : {M : Type 1} → statement M
 line--spec = tie.close (tie.spec broken-or-nil-requires same-length returns)

@@ -13,7 +13,9 @@ same-length c = search needs
 
 returns : tie.Need-returns
 unfolding counted
-returns c = let a = c .before .before .before .before .before .before .args in nest-alone (a .self) (a .table .now) (a .text .now) (a .n .0) (a .amount .0) (a .way) (c .before .before .nest-before .ensures)
+returns c =
+    let a = c .before .before .before .before .before .before .args in
+    nest-alone (a .self) (a .table .now) (a .text .now) (a .n .0) (a .amount .0) (a .way) (c .before .before .nest-before .ensures)
 
 pub nest-spec : {M : Type 1} → statement M
 nest-spec = tie.close (tie.spec nest-before-requires same-length returns)

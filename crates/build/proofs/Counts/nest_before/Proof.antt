@@ -24,7 +24,9 @@ same-length c = search needs
 
 returns : tie.Need-returns
 unfolding counted
-returns c = let a = c .before .before .before .before .before .before .before .before .args in nest-kept (a .self) (a .table .now) (a .text .now) (a .n .0) (a .amount .0) (a .way) (a .more) (sym (c .before .before .nest-stays .ensures) ∙ c .before .if1 .taken) (simp (← (c .before .before .before .before .before .has .ensures), ← (c .before .before .before .before .nest-right .ensures)) (older-settled (a .self) (a .table .now) (a .text .now) (c .before .before .before .before .before .has .result) (c .before .before .before .before .nest-right .result) (a .n) (a .more) (c .older .ensures)))
+returns c =
+    let a = c .before .before .before .before .before .before .before .before .args in
+    nest-kept (a .self) (a .table .now) (a .text .now) (a .n .0) (a .amount .0) (a .way) (a .more) (sym (c .before .before .nest-stays .ensures) ∙ c .before .if1 .taken) (simp (← (c .before .before .before .before .before .has .ensures), ← (c .before .before .before .before .nest-right .ensures)) (older-settled (a .self) (a .table .now) (a .text .now) (c .before .before .before .before .before .has .result) (c .before .before .before .before .nest-right .result) (a .n) (a .more) (c .older .ensures)))
 
 add-node : tie.Need-add-node
 add-node c = search needs
@@ -37,7 +39,21 @@ same-length-2 c = search needs
 
 returns-2 : tie.Need-returns-2
 unfolding counted
-returns-2 c = let a = c .before .before .before .before .before .before .before .before .before .before .before .args in nest-wrapped (a .self) (a .table .now) (a .text .now) (a .n .0) (a .amount .0) (a .way) (a .more) (sym (c .before .before .before .before .before .nest-stays .ensures) ∙ c .before .before .before .before .if1 .left) (simp (← (c .before .before .before .before .before .before .before .before .has .ensures), ← (c .before .before .before .before .before .before .before .nest-right .ensures)) (c .before .before .node .ensures))
+returns-2 c =
+    let a = c .before .before .before .before .before .before .before .before .before .before .before .args in
+    nest-wrapped (a .self) (a .table .now) (a .text .now) (a .n .0) (a .amount .0) (a .way) (a .more) (sym (c .before .before .before .before .before .nest-stays .ensures) ∙ c .before .before .before .before .if1 .left) (simp (← (c .before .before .before .before .before .before .before .before .has .ensures), ← (c .before .before .before .before .before .before .before .nest-right .ensures)) (c .before .before .node .ensures))
 
 pub nest-before-spec : {M : Type 1} → statement M
-nest-before-spec = tie.close (tie.spec has-requires nest-right-requires nest-stays-requires older-requires same-length returns add-node node-requires same-length-2 returns-2)
+nest-before-spec =
+    tie.close
+    (tie.spec
+    has-requires
+    nest-right-requires
+    nest-stays-requires
+    older-requires
+    same-length
+    returns
+    add-node
+    node-requires
+    same-length-2
+    returns-2)

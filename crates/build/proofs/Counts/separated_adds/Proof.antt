@@ -17,7 +17,9 @@ separators-requires : tie.Need-separators-requires
 separators-requires c κs = search needs
 
 add-solid : tie.Need-add-solid
-add-solid c = let a = c .before .before .before .before .args in let b = solid-bound (take (a .self .nodes * 4) (a .table .now)) (a .separator .0) (a .nodes .now) (length (a .nodes .now) - 1) in omega (arith, c .before .solid .ensures, c .separators .ensures, c .before .before .before .before .good)
+add-solid c =
+    let a = c .before .before .before .before .args in
+    let b = solid-bound (take (a .self .nodes * 4) (a .table .now)) (a .separator .0) (a .nodes .now) (length (a .nodes .now) - 1) in omega (arith, c .before .solid .ensures, c .separators .ensures, c .before .before .before .before .good)
 
 less-one-requires : tie.Need-less-one-requires
 less-one-requires c κs = search needs
@@ -26,4 +28,12 @@ returns : tie.Need-returns
 returns c = simp (← (c .before .before .solid .ensures), ← (c .before .separators .ensures)) (c .less-one .ensures)
 
 pub separated-adds-spec : {M : Type 1} → statement M
-separated-adds-spec = tie.close (tie.spec solid-requires sub-separators separators-requires add-solid less-one-requires returns)
+separated-adds-spec =
+    tie.close
+    (tie.spec
+    solid-requires
+    sub-separators
+    separators-requires
+    add-solid
+    less-one-requires
+    returns)

@@ -20,7 +20,16 @@ same-length-2 c = search needs
 
 returns : tie.Need-returns
 unfolding line softline
-returns c = let a = c .before .before .before .before .before .before .before .before .before .before .before .before .before .before .args in soft-made (a .self) (a .table .now) (a .text .now) space-one _ _ _ (c .before .before .before .before .before .before .before .before .before .broken-or-blank .ensures) (c .before .before .grouped .ensures)
+returns c =
+    let a = c .before .before .before .before .before .before .before .before .before .before .before .before .before .before .args in
+    soft-made (a .self) (a .table .now) (a .text .now) space-one _ _ _ (c .before .before .before .before .before .before .before .before .before .broken-or-blank .ensures) (c .before .before .grouped .ensures)
 
 pub softline-spec : {M : Type 1} → statement M
-softline-spec = tie.close (tie.spec broken-or-blank-requires grouped-requires same-length same-length-2 returns)
+softline-spec =
+    tie.close
+    (tie.spec
+    broken-or-blank-requires
+    grouped-requires
+    same-length
+    same-length-2
+    returns)

@@ -17,7 +17,9 @@ same-length c = search needs
 
 returns : tie.Need-returns
 unfolding line₀ softline₀
-returns c = let a = c .before .before .before .before .before .before .before .before .before .before .args in soft-made (a .self) (a .table .now) (a .text .now) nil-one _ _ _ (c .before .before .before .before .before .before .broken-or-nil .ensures) (c .before .before .grouped .ensures)
+returns c =
+    let a = c .before .before .before .before .before .before .before .before .before .before .args in
+    soft-made (a .self) (a .table .now) (a .text .now) nil-one _ _ _ (c .before .before .before .before .before .before .broken-or-nil .ensures) (c .before .before .grouped .ensures)
 
 pub softline--spec : {M : Type 1} → statement M
 softline--spec = tie.close (tie.spec broken-or-nil-requires grouped-requires same-length returns)
