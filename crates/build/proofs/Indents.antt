@@ -33,11 +33,6 @@ use Rattle.build.proofs.Stand.{start, Went, gone, taken, refuse, Begun,
 
 -- ---- blanks
 
-pub take-replicate : (n m a : ℕ) → n ≤ m → take n (replicate m a) ≡ replicate n a
-take-replicate zero m a h = refl
-take-replicate (suc n) zero a h = absurd (not-suc-le-zero h)
-take-replicate (suc n) (suc m) a h = ap (λ (l : List ℕ). a ∷ l) (take-replicate n m a (le-of-suc-le-suc h))
-
 blanks-ascii : (n : ℕ) → ascii (replicate n 32) ≡ true
 unfolding ascii
 blanks-ascii zero = refl
@@ -189,9 +184,17 @@ module _ (c : Counts) (table letters : List ℕ) (n by : ℕ) where
           let right : nestRight by 0 ≡ true = rw (le-leb by 1000 indent-by) refl in
           finish begun (step begun (t .0) (λ s. hang s (s₂ .node) by 0) (then grown₁ grown₂) grown₃ (same (indent s₀ n by .sheet)) present right refl o′)
 
-    pub indent-made : (m₁ : Made) (table₁ letters₁ : List ℕ) → outcome m₁ table₁ letters₁ ≡ textMade c table letters (replicate by 32) by → (m₂ : Made) (table₂ letters₂ : List ℕ) → outcome m₂ table₂ letters₂ ≡ onward m₁ table₁ letters₁ (λ c₁ n₁. appendMade c₁ table₁ letters₁ n₁ n)
+    indent-made : (m₁ : Made) (table₁ letters₁ : List ℕ) → outcome m₁ table₁ letters₁ ≡ textMade c table letters (replicate by 32) by → (m₂ : Made) (table₂ letters₂ : List ℕ) → outcome m₂ table₂ letters₂ ≡ onward m₁ table₁ letters₁ (λ c₁ n₁. appendMade c₁ table₁ letters₁ n₁ n)
         → {m₃ : Made} {table₃ letters₃ : List ℕ} → outcome m₃ table₃ letters₃ ≡ onward m₂ table₂ letters₂ (λ c₂ n₂. hangMade c₂ table₂ letters₂ n₂ by 0) → outcome m₃ table₃ letters₃ ≡ indentMade c table letters n by
     indent-made m₁ table₁ letters₁ o₁ m₂ table₂ letters₂ o₂ o₃ =
         let w₁ = indent-first o₁ in
         let w₂ = indent-second w₁ (w₁ .answer) (o₂ ∙ gone w₁ (λ c₁ n₁. appendMade c₁ table₁ letters₁ n₁ n)) in
         indent-last w₁ (w₁ .answer) w₂ (w₂ .answer) (o₃ ∙ gone w₂ (λ c₂ n₂. hangMade c₂ table₂ letters₂ n₂ by 0))
+
+    -- the blanks' refusal is handed on; of their node the rest goes on
+    pub indent-handed-on : (m₁ : Made) (table₁ letters₁ : List ℕ) → outcome m₁ table₁ letters₁ ≡ textMade c table letters (replicate by 32) by → {why : Why} → m₁ ≡ Refused why → outcome m₁ table₁ letters₁ ≡ indentMade c table letters n by
+    indent-handed-on m₁ table₁ letters₁ o₁ e = indent-made m₁ table₁ letters₁ o₁ m₁ table₁ letters₁ (rw e refl) (rw e refl)
+
+    pub indent-went-on : (m₁ : Made) (table₁ letters₁ : List ℕ) → outcome m₁ table₁ letters₁ ≡ textMade c table letters (replicate by 32) by → {c₁ : Counts} {n₁ : NodeNo} → m₁ ≡ Node c₁ n₁ → (m₂ : Made) (table₂ letters₂ : List ℕ) → outcome m₂ table₂ letters₂ ≡ appendMade c₁ table₁ letters₁ (n₁ .0) n
+        → {m₃ : Made} {table₃ letters₃ : List ℕ} → outcome m₃ table₃ letters₃ ≡ onward m₂ table₂ letters₂ (λ c₂ n₂. hangMade c₂ table₂ letters₂ n₂ by 0) → outcome m₃ table₃ letters₃ ≡ indentMade c table letters n by
+    indent-went-on m₁ table₁ letters₁ o₁ e m₂ table₂ letters₂ o₂ o₃ = indent-made m₁ table₁ letters₁ o₁ m₂ table₂ letters₂ (rw e o₂) o₃

@@ -2,7 +2,7 @@
 --     joined-counts   as many as are no Nil, but one, and no byte
 --     Along           a turn of the loop: what is left to join comes to the whole
 --     along-start, along-went, along-next, along-end
---     joinAll         what the loop leaves: join-on a turn of it, join-whole all of it
+--     joinAll         what the loop leaves: join-on a turn of it, join-refused where there is none, join-whole all of it
 -- Assumes nothing.
 use Prim.Native.Nat.{ℕ, _+_, _-_, _≤_, _<_}
 use native.Mathlib.Omega.{arith}
@@ -152,6 +152,10 @@ join-refused-on : (why : Why) (table text ks : List ℕ) → joinAll (Refused wh
 unfolding joinAll
 join-refused-on why table text [] = refl
 join-refused-on why table text (k ∷ ks) = join-refused-on why table text ks
+
+-- nothing is joined to a refusal
+pub join-refused : {m : Made} {why : Why} (table text ks : List ℕ) → m ≡ Refused why → joinAll m table text ks ≡ outcome m table text
+join-refused {m} {why} table text ks e = rw e (join-refused-on why table text ks)
 
 module _ {c₀ : Counts} {table₀ text₀ : List ℕ} {present amount right : Bool} {whole : Sheet → Built} (begun : Begun c₀ table₀ text₀ present amount right whole) where
   join-along : {c : Counts} {n : NodeNo} (ks : List ℕ) {table text : List ℕ} → Below (c₀ .nodes) ks → Along c₀ table₀ text₀ whole c (n .0) ks table text → joinAll (Node c n) table text ks ≡ made c₀ table₀ text₀ present amount right whole

@@ -8,12 +8,11 @@ ghost use Rattle.build.specs.Sheet.{counted};
 ghost use Rattle.build.specs.Parts.{line, line₀};
 ghost use Rattle.build.specs.Solid.{indentAdds};
 ghost use Rattle.build.specs.Outcome.{asked, outcome, settled, onward};
-ghost use Rattle.build.specs.Constructors.{has, groupMade, flatAltMade, textMade, spaceMade, lineMade, line₀Made, softlineMade, softline₀Made, hangMade, indentMade};
+ghost use Rattle.build.specs.Constructors.{has, flatAltMade, textMade, spaceMade, lineMade, line₀Made, softlineMade, softline₀Made, hangMade, indentMade};
 use crate::Asked;
 use crate::Asks;
 use crate::Counts;
 use crate::Made;
-use crate::appended;
 use table::Column;
 use table::Indent;
 use table::NodeNo;
@@ -68,14 +67,20 @@ impl Counts {
         ensures { λ r. ⌜ outcome r (now (table .exit)) (now (text .exit)) ≡ softlineMade self (now (table .entry)) (now (text .entry)) ⌝ }
     {
         let line = self.broken_or_blank(table, text, 4);
-        grouped(line, table, text)
+        let Made::Node(c, n) = line else {
+            return line;
+        };
+        c.group(table, text, n)
     }
 
     pub fn softline_(self, table: &mut [u32], text: &[u8]) -> Made
         ensures { λ r. ⌜ outcome r (now (table .exit)) (now (text .entry)) ≡ softline₀Made self (now (table .entry)) (now (text .entry)) ⌝ }
     {
         let line = self.broken_or_nil(table, text, 4);
-        grouped(line, table, text)
+        let Made::Node(c, n) = line else {
+            return line;
+        };
+        c.group(table, text, n)
     }
 
     // Nests, then aligns.
@@ -137,7 +142,10 @@ impl Counts {
             return Made::Refused(why);
         }
         let mut made = self.blanks(table, text, by);
-        made = appended(made, table, text, n);
+        let Made::Node(c, blank) = made else {
+            return made;
+        };
+        made = c.append(table, text, blank, n);
         hung(made, table, text, by)
     }
 }
@@ -150,16 +158,6 @@ fn or_flat(made: Made, table: &mut [u32], text: &[u8], broken: NodeNo) -> Made
         return made;
     };
     c.flat_alt(table, text, broken, flat)
-}
-
-// Group of what was made.
-fn grouped(made: Made, table: &mut [u32], text: &[u8]) -> Made
-    ensures { λ r. ⌜ outcome r (now (table .exit)) (now (text .entry)) ≡ onward made (now (table .entry)) (now (text .entry)) (λ c n. groupMade c (now (table .entry)) (now (text .entry)) n) ⌝ }
-{
-    let Made::Node(c, n) = made else {
-        return made;
-    };
-    c.group(table, text, n)
 }
 
 // What was made, hung.

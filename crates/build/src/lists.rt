@@ -88,7 +88,10 @@ impl Counts {
         );
         let mut i = 1;
         while i < nodes.len() {
-            made = appended(made, table, text, NodeNo(nodes[i]));
+            let Made::Node(c, n) = made else {
+                return made;
+            };
+            made = c.append(table, text, n, NodeNo(nodes[i]));
             i += 1;
         }
         made
@@ -134,7 +137,10 @@ impl Counts {
         );
         let mut i = 1;
         while i < nodes.len() {
-            made = appended(made, table, text, separator);
+            let Made::Node(c, n) = made else {
+                return made;
+            };
+            made = c.append(table, text, n, separator);
             made = appended(made, table, text, NodeNo(nodes[i]));
             i += 1;
         }

@@ -5,7 +5,7 @@ use Prim.Native.Nat.{ℕ}
 use mathlib.Core.List.{List}
 use lib.ListN.{length, length-replicate}
 use Rattle.build.specs.Constructors.{textMade}
-use Rattle.build.proofs.Indents.{take-replicate}
+use Rattle.buffer.proofs.Put.{take-replicate}
 use Rattle.build.proofs.Counts.blanks.Statement.{statement}
 use Rattle.build.proofs.Counts.blanks.Tie as tie
 

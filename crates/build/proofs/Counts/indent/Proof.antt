@@ -1,6 +1,6 @@
 -- `indent`, part by part.
 use borrow.Author.Needs.{needs}
-use Rattle.build.proofs.Indents.{indent-by, indent-refused, indent-made}
+use Rattle.build.proofs.Indents.{indent-by, indent-refused, indent-handed-on, indent-went-on}
 use Rattle.build.proofs.Counts.indent.Statement.{statement}
 use Rattle.build.proofs.Counts.indent.Tie as tie
 
@@ -26,11 +26,11 @@ blanks-requires c κs =
     let a = c .before .before .before .before .before .before .before .before .args in
     indent-by (a .self) (a .table .now) (a .text .now) (a .n .0) (a .by .0) (c .before .before .before .before .ask-indent .ensures) (c .before .before .enum-told .given .1)
 
-appended-requires : tie.Need-appended-requires
-appended-requires c κs = search needs
+enum-known-made : tie.Need-enum-known-made
+enum-known-made c = search needs
 
-hung-requires : tie.Need-hung-requires
-hung-requires c κs = search needs
+enum-told-2 : tie.Need-enum-told-2
+enum-told-2 c = search needs
 
 same-length-2 : tie.Need-same-length-2
 same-length-2 c = search needs
@@ -40,8 +40,25 @@ same-length-3 c = search needs
 
 returns-2 : tie.Need-returns-2
 returns-2 c =
-    let a = c .before .before .before .before .before .before .before .before .before .before .before .before .before .before .before .before .before .before .before .before .before .before .before .args in
-    indent-made (a .self) (a .table .now) (a .text .now) (a .n .0) (a .by .0) (c .before .before .before .before .before .before .before .before .before .before .before .before .before .before .before .before .before .before .before .ask-indent .ensures) (c .before .before .before .before .before .before .before .before .before .before .before .before .before .before .before .before .before .enum-told .given .1) _ _ _ (c .before .before .before .before .before .before .before .before .before .before .before .before .before .before .blanks .ensures) _ _ _ (c .before .before .before .before .before .before .before .appended .ensures) (c .before .before .hung .ensures)
+    let a = c .before .before .before .before .before .before .before .before .before .before .before .before .before .before .before .args in
+    indent-handed-on (a .self) (a .table .now) (a .text .now) (a .n .0) (a .by .0) (c .before .before .before .before .before .before .before .before .before .before .before .ask-indent .ensures) (c .before .before .before .before .before .before .before .before .before .enum-told .given .1) _ _ _ (c .before .before .before .before .before .before .blanks .ensures) (c .enum-told2 .given .1)
+
+append-requires : tie.Need-append-requires
+append-requires c κs = search needs
+
+hung-requires : tie.Need-hung-requires
+hung-requires c κs = search needs
+
+same-length-4 : tie.Need-same-length-4
+same-length-4 c = search needs
+
+same-length-5 : tie.Need-same-length-5
+same-length-5 c = search needs
+
+returns-3 : tie.Need-returns-3
+returns-3 c =
+    let a = c .before .before .before .before .before .before .before .before .before .before .before .before .before .before .before .before .before .before .before .before .before .before .before .before .before .before .args in
+    indent-went-on (a .self) (a .table .now) (a .text .now) (a .n .0) (a .by .0) (c .before .before .before .before .before .before .before .before .before .before .before .before .before .before .before .before .before .before .before .before .before .before .ask-indent .ensures) (c .before .before .before .before .before .before .before .before .before .before .before .before .before .before .before .before .before .before .before .before .enum-told .given .1) _ _ _ (c .before .before .before .before .before .before .before .before .before .before .before .before .before .before .before .before .before .blanks .ensures) (c .before .before .before .before .before .before .before .before .before .before .before .made .given .1) _ _ _ (c .before .before .before .before .before .before .before .append .ensures) (c .before .before .hung .ensures)
 
 pub indent-spec : {M : Type 1} → statement M
 indent-spec =
@@ -53,8 +70,13 @@ indent-spec =
     returns
     enum-told
     blanks-requires
-    appended-requires
-    hung-requires
+    enum-known-made
+    enum-told-2
     same-length-2
     same-length-3
-    returns-2)
+    returns-2
+    append-requires
+    hung-requires
+    same-length-4
+    same-length-5
+    returns-3)

@@ -1,13 +1,13 @@
 -- `intersperse`: the loop joins a separator and one more each turn.
 use borrow.Author.Needs.{needs}
-use mathlib.Core.Path.{_≡_, refl, _∙_}
+use mathlib.Core.Path.{_≡_, refl, sym, _∙_}
 use mathlib.Core.Bool.{true}
 use native.Mathlib.Omega.{arith}
 use Prim.Native.Nat.{_-_, _≤_}
 use lib.ListN.{length, drop}
 use Rattle.build.specs.Parts.{separated}
 use Rattle.build.proofs.Leaf.{node-alone}
-use Rattle.build.proofs.Joins.{joinAll}
+use Rattle.build.proofs.Joins.{joinAll, join-refused}
 use Rattle.build.proofs.Separated.{intersperse-none, intersperse-made, intersperse-turn, intersperse-end}
 use Rattle.build.proofs.Counts.intersperse.Statement.{statement}
 use Rattle.build.proofs.Counts.intersperse.Tie as tie
@@ -35,8 +35,8 @@ returns c =
 separated-adds-requires : tie.Need-separated-adds-requires Inv-loop μ-loop
 separated-adds-requires c κs = let n = c .before .if1 .left in omega (arith, n)
 
-shared-slice-read-t18 : tie.Need-shared-slice-read-t18 Inv-loop μ-loop
-shared-slice-read-t18 c = let n = c .before .before .before .if1 .left in omega (arith, n)
+shared-slice-read-t20 : tie.Need-shared-slice-read-t20 Inv-loop μ-loop
+shared-slice-read-t20 c = let n = c .before .before .before .if1 .left in omega (arith, n)
 
 older-requires : tie.Need-older-requires Inv-loop μ-loop
 older-requires c κs = search needs
@@ -44,36 +44,54 @@ older-requires c κs = search needs
 loop-holds : tie.Need-loop-holds Inv-loop μ-loop
 loop-holds c = let n = c .before .before .before .before .if1 .left in (omega arith, omega (arith, n), refl, refl)
 
+enum-known-made : tie.Need-enum-known-made Inv-loop μ-loop
+enum-known-made c = search needs
+
+enum-told : tie.Need-enum-told Inv-loop μ-loop
+enum-told c = search needs
+
+same-length-2 : tie.Need-same-length-2 Inv-loop μ-loop
+same-length-2 c = c .before .before .before .loop .inv .2
+
+returns-2 : tie.Need-returns-2 Inv-loop μ-loop
+returns-2 c =
+    let a = c .before .before .before .before .before .before .before .before .before .before .before .before .before .args in
+    let L = c .before .before .before .loop in
+    sym (join-refused (L .table) (a .text .now) _ (c .enum-told .given .1)) ∙ L .inv .3 ∙ intersperse-made (a .separator .0) (a .nodes .now) (let n = c .before .before .before .before .before .before .before .before .if1 .left in omega (arith, n)) (a .self) (a .table .now) (a .text .now) (rw (c .before .before .before .before .before .before .before .before .before .has-with .ensures, c .before .before .before .before .before .before .separated-adds .ensures) at (c .before .before .before .before .older .ensures))
+
+append-requires : tie.Need-append-requires Inv-loop μ-loop
+append-requires c κs = search needs
+
+mul-t22 : tie.Need-mul-t22 Inv-loop μ-loop
+mul-t22 c = omega (arith, c .before .before .before .before .before .before .before .before .loop-test .taken, c .before .before .before .before .before .before .before .before .before .before .before .before .before .before .before .before .before .before .before .good)
+
+shared-slice-read-t29 : tie.Need-shared-slice-read-t29 Inv-loop μ-loop
+shared-slice-read-t29 c = search needs
+
 appended-requires : tie.Need-appended-requires Inv-loop μ-loop
 appended-requires c κs = search needs
 
-mul-t20 : tie.Need-mul-t20 Inv-loop μ-loop
-mul-t20 c = omega (arith, c .before .before .before .before .before .loop-test .taken, c .before .before .before .before .before .before .before .before .before .before .before .before .before .before .before .before .good)
-
-shared-slice-read-t27 : tie.Need-shared-slice-read-t27 Inv-loop μ-loop
-shared-slice-read-t27 c = search needs
-
-appended-requires-2 : tie.Need-appended-requires-2 Inv-loop μ-loop
-appended-requires-2 c κs = search needs
-
 add-i : tie.Need-add-i Inv-loop μ-loop
-add-i c = omega (arith, c .before .before .before .before .before .before .before .before .before .loop-test .taken, c .before .before .before .before .before .before .before .before .before .before .before .before .before .before .before .before .before .before .before .before .good)
+add-i c = omega (arith, c .before .before .before .before .before .before .before .before .before .before .before .before .loop-test .taken, c .before .before .before .before .before .before .before .before .before .before .before .before .before .before .before .before .before .before .before .before .before .before .before .good)
 
 loop-less : tie.Need-loop-less Inv-loop μ-loop
 loop-less c = search needs
 
 loop-again : tie.Need-loop-again Inv-loop μ-loop
 loop-again c =
-    let a = c .before .before .before .before .before .before .before .before .before .before .before .before .before .before .before .before .before .before .before .before .args in
-    (omega arith, omega arith, c .before .before .appended2 .kept .1 .0 ∙ c .before .before .before .before .before .before .before .appended .kept .1 .0 ∙ c .before .before .before .before .before .before .before .before .before .before .loop .inv .2, intersperse-turn (c .before .before .before .before .before .before .before .before .before .before .loop .made) (c .before .before .before .before .before .before .before .appended .result) (c .before .before .before .before .before .before .before .before .before .before .loop .table) _ (a .text .now) (a .separator .0) (a .nodes .now) (c .before .before .before .before .before .before .before .before .before .before .loop .i) (c .before .before .before .before .before .before .before .before .before .loop-test .taken) (c .before .before .before .before .before .before .before .appended .ensures) (c .before .before .appended2 .ensures) ∙ c .before .before .before .before .before .before .before .before .before .before .loop .inv .3)
+    let a = c .before .before .before .before .before .before .before .before .before .before .before .before .before .before .before .before .before .before .before .before .before .before .before .args in
+    let L = c .before .before .before .before .before .before .before .before .before .before .before .before .before .loop in
+    let first = c .before .before .before .before .before .before .before .append in
+    (omega arith, omega arith, c .before .before .appended .kept .1 .0 ∙ first .kept .1 .0 ∙ L .inv .2, intersperse-turn (L .made) (first .result) (L .table) _ (a .text .now) (a .separator .0) (a .nodes .now) (L .i) (c .before .before .before .before .before .before .before .before .before .before .before .before .loop-test .taken) (rw (c .before .before .before .before .before .before .before .before .before .before .made .given .1) (first .ensures)) (c .before .before .appended .ensures) ∙ L .inv .3)
 
-same-length-2 : tie.Need-same-length-2 Inv-loop μ-loop
-same-length-2 c = c .before .loop .inv .2
+same-length-3 : tie.Need-same-length-3 Inv-loop μ-loop
+same-length-3 c = c .before .loop .inv .2
 
-returns-2 : tie.Need-returns-2 Inv-loop μ-loop
-returns-2 c =
+returns-3 : tie.Need-returns-3 Inv-loop μ-loop
+returns-3 c =
     let a = c .before .before .before .before .before .before .before .before .before .before .before .args in
-    intersperse-end (a .separator .0) (a .nodes .now) (c .before .loop .i) (c .loop-test .left) ∙ c .before .loop .inv .3 ∙ intersperse-made (a .separator .0) (a .nodes .now) (let n = c .before .before .before .before .before .before .if1 .left in omega (arith, n)) (a .self) (a .table .now) (a .text .now) (rw (c .before .before .before .before .before .before .before .has-with .ensures, c .before .before .before .before .separated-adds .ensures) at (c .before .before .older .ensures))
+    let L = c .before .loop in
+    intersperse-end (a .separator .0) (a .nodes .now) (L .i) (c .loop-test .left) ∙ L .inv .3 ∙ intersperse-made (a .separator .0) (a .nodes .now) (let n = c .before .before .before .before .before .before .if1 .left in omega (arith, n)) (a .self) (a .table .now) (a .text .now) (rw (c .before .before .before .before .before .before .before .has-with .ensures, c .before .before .before .before .separated-adds .ensures) at (c .before .before .older .ensures))
 
 pub intersperse-spec : {M : Type 1} → statement M
 intersperse-spec =
@@ -86,15 +104,19 @@ intersperse-spec =
     same-length
     returns
     separated-adds-requires
-    shared-slice-read-t18
+    shared-slice-read-t20
     older-requires
     loop-holds
+    enum-known-made
+    enum-told
+    same-length-2
+    returns-2
+    append-requires
+    mul-t22
+    shared-slice-read-t29
     appended-requires
-    mul-t20
-    shared-slice-read-t27
-    appended-requires-2
     add-i
     loop-less
     loop-again
-    same-length-2
-    returns-2)
+    same-length-3
+    returns-3)

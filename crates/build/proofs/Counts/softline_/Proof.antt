@@ -1,5 +1,6 @@
 -- `softline_`: a line and its group.
 use borrow.Author.Needs.{needs}
+use mathlib.Core.Path.{refl}
 use Rattle.build.specs.Parts.{line₀, softline₀}
 use Rattle.build.proofs.Lines.{nil-one}
 use Rattle.build.proofs.Softlines.{soft-made}
@@ -9,8 +10,11 @@ use Rattle.build.proofs.Counts.softline_.Tie as tie
 broken-or-nil-requires : tie.Need-broken-or-nil-requires
 broken-or-nil-requires c κs = search needs
 
-grouped-requires : tie.Need-grouped-requires
-grouped-requires c κs = search needs
+enum-known-line : tie.Need-enum-known-line
+enum-known-line c = search needs
+
+enum-told : tie.Need-enum-told
+enum-told c = search needs
 
 same-length : tie.Need-same-length
 same-length c = search needs
@@ -18,8 +22,30 @@ same-length c = search needs
 returns : tie.Need-returns
 unfolding line₀ softline₀
 returns c =
-    let a = c .before .before .before .before .before .before .before .before .before .before .args in
-    soft-made (a .self) (a .table .now) (a .text .now) nil-one _ _ _ (c .before .before .before .before .before .before .broken-or-nil .ensures) (c .before .before .grouped .ensures)
+    let a = c .before .before .before .before .before .before .before .before .args in
+    soft-made (a .self) (a .table .now) (a .text .now) nil-one _ _ _ (c .before .before .before .before .broken-or-nil .ensures) (rw (c .enum-told .given .1) refl)
+
+group-requires : tie.Need-group-requires
+group-requires c κs = search needs
+
+same-length-2 : tie.Need-same-length-2
+same-length-2 c = search needs
+
+returns-2 : tie.Need-returns-2
+unfolding line₀ softline₀
+returns-2 c =
+    let a = c .before .before .before .before .before .before .before .before .before .before .before .before .before .args in
+    soft-made (a .self) (a .table .now) (a .text .now) nil-one _ _ _ (c .before .before .before .before .before .before .before .before .before .broken-or-nil .ensures) (rw (c .before .before .before .before .before .line .given .1) (c .before .before .group .ensures))
 
 pub softline--spec : {M : Type 1} → statement M
-softline--spec = tie.close (tie.spec broken-or-nil-requires grouped-requires same-length returns)
+softline--spec =
+    tie.close
+    (tie.spec
+    broken-or-nil-requires
+    enum-known-line
+    enum-told
+    same-length
+    returns
+    group-requires
+    same-length-2
+    returns-2)
