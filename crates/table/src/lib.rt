@@ -4,12 +4,12 @@
 ghost use mathlib.Core.Path.{_≡_};
 ghost use mathlib.Core.Bool.{true};
 ghost use mathlib.Core.List.{List};
-ghost use Prim.Native.Nat.{ℕ, _+_, _*_, _/_, _≤_, _<_};
-ghost use lib.ListN.{length, getD};
+ghost use Prim.Native.Nat.{ℕ, _/_, _≤_, _<_};
+ghost use lib.ListN.{length};
 ghost use Rattle.table.specs.Kinds.{kinds, kindAt};
 ghost use Rattle.utf8.specs.Utf8.{ascii};
 ghost use Rattle.table.specs.Parts.{Tells, textFault};
-ghost use Rattle.table.specs.Fault.{unusedZero, childrenBelow, nestInRange, columnsRight, faultOf, faultAt, firstFault, sizesRight, check};
+ghost use Rattle.table.specs.Fault.{unusedZero, childrenBelow, nestInRange, columnsRight, faultOf, firstFault, sizesRight, check};
 use utf8::below_128;
 use utf8::plainly_below_128;
 use utf8::well_formed;
@@ -229,25 +229,9 @@ fn node_fault(
     0
 }
 
-// What is wrong with node n, whose kind is known: 0, or the first of 2, 3, 4, 5.
-fn fault_at(table: &[u32], text: &[u8], plain: bool, info: KindInfo, n: NodeNo) -> u32
-    requires { ⌜ (plain ≡ ascii (now text)) × (n .0 * 4 + 4 ≤ length (now table)) × (length (now table) ≤ 4096) × (getD (now table) (n .0 * 4) 0 < 11) × (info ≡ kindAt (getD (now table) (n .0 * 4) 0)) ⌝ }
-    ensures { λ r. ⌜ r ≡ faultAt (now (table .entry)) (now (text .entry)) (n .0) ⌝ }
-{
-    let at = n.0 as usize * 4;
-    let k = table[at];
-    let a = table[at + 1];
-    let b = table[at + 2];
-    let c = table[at + 3];
-    if plainly_right(n, k, a, b, c) {
-        return 0;
-    }
-    node_fault(text, plain, info, n, k, a, b, c)
-}
-
 // ---- the whole table
 
-// The first fault of the nodes from 0 up, unreachable ones too. The kinds are read here: lent by value they would be copied for each node.
+// The first fault of the nodes from 0 up, unreachable ones too.
 fn first_fault(table: &[u32], text: &[u8], plain: bool) -> Fault
     requires { ⌜ (plain ≡ ascii (now text)) × (length (now table) ≤ 4096) ⌝ }
     ensures { λ r. ⌜ Tells r (firstFault (now (table .entry)) (now (text .entry)) (length (now (table .entry)) / 4)) ⌝ }
@@ -256,12 +240,21 @@ fn first_fault(table: &[u32], text: &[u8], plain: bool) -> Fault
     let nodes = table.len() / 4;
     let mut n = 0;
     while n < nodes {
+        let at = n * 4;
         let place = NodeNo(n as u32);
-        let k = table[n * 4];
+        let k = table[at];
+        let a = table[at + 1];
+        let b = table[at + 2];
+        let c = table[at + 3];
+        if plainly_right(place, k, a, b, c) {
+            n += 1;
+            continue;
+        }
         if 11 <= k {
             return Fault { answer: 2, place };
         }
-        let answer = fault_at(table, text, plain, kinds[k as usize], place);
+        let info = kinds[k as usize];
+        let answer = node_fault(text, plain, info, place, k, a, b, c);
         if answer != 0 {
             return Fault { answer, place };
         }

@@ -1,14 +1,14 @@
 -- `table::first_fault` meets its contract: the nodes before n have no fault. Assumes nothing.
 use borrow.Author.Needs.{needs}
 use native.Mathlib.Omega.{arith}
-use native.Mathlib.Numerals.{add-one}
 use mathlib.Core.Path.{_≡_, sym, ap, _∙_}
-use mathlib.Core.List.{List}
 use Prim.Native.Nat.{_*_, _-_, _/_, _≤_}
 use lib.ListN.{length, getD}
+use mathlib.Core.List.{List}
 use Rattle.table.specs.declared.KindInfo.{KindInfo}
 use Rattle.table.specs.Kinds.{kind, kindAt}
 use Rattle.table.specs.Fault.{none, firstFault}
+use native.Mathlib.Numerals.{add-one}
 use Rattle.table.proofs.Accept.{first-zero, first-next, first-here}
 use Rattle.table.proofs.Answers.{fault-unknown, fault-read, reported}
 use Rattle.table.proofs.first_fault.Statement.{statement}
@@ -26,52 +26,47 @@ all-kinds-requires c κs = search needs
 loop-holds : tie.Need-loop-holds Inv-loop μ-loop
 loop-holds c = (omega arith, first-zero (c .before .before .before .args .table .now) (c .before .before .before .args .text .now))
 
+mul-at : tie.Need-mul-at Inv-loop μ-loop
+mul-at c = search needs
+
 cast-k : tie.Need-cast-k Inv-loop μ-loop
 cast-k c = search needs
 
 mul-k : tie.Need-mul-k Inv-loop μ-loop
 mul-k c = search needs
 
-mul-k-2 : tie.Need-mul-k-2 Inv-loop μ-loop
-mul-k-2 c = search needs
-
 shared-slice-read-k : tie.Need-shared-slice-read-k Inv-loop μ-loop
 shared-slice-read-k c = search needs
 
-returns : tie.Need-returns Inv-loop μ-loop
-returns c =
-    let a = c .before .before .before .before .before .before .before .args in
-    let table = a .table .now in
-    let text = a .text .now in
-    let L = c .before .before .before .loop in
-    let f = fault-read table text (L .n) 2 (fault-unknown text (L .n) (getD table (L .n * 4) 0) _ _ _ (c .if1 .taken)) in
-    reported (firstFault table text (length table / 4)) 2 (L .n) (first-here table text (L .n) 2 (length table / 4) (L .inv .1) f (λ e. omega arith) (c .before .before .loop-test .taken))
+add-a : tie.Need-add-a Inv-loop μ-loop
+add-a c = search needs
 
-cast-fault-at : tie.Need-cast-fault-at Inv-loop μ-loop
-cast-fault-at c = search needs
+mul-a : tie.Need-mul-a Inv-loop μ-loop
+mul-a c = search needs
 
-mul-fault-at : tie.Need-mul-fault-at Inv-loop μ-loop
-mul-fault-at c = search needs
+shared-slice-read-a : tie.Need-shared-slice-read-a Inv-loop μ-loop
+shared-slice-read-a c = search needs
 
-array-copy-out-fault-at : tie.Need-array-copy-out-fault-at Inv-loop μ-loop
-array-copy-out-fault-at c = search needs
+add-b : tie.Need-add-b Inv-loop μ-loop
+add-b c = search needs
 
-fault-at-requires : tie.Need-fault-at-requires Inv-loop μ-loop
-unfolding kindAt
-fault-at-requires c κs =
-    let s = c .before .before .before .before .before .before .before .before in
-    let L = c .before .before .before .before .loop in
-    let k = getD (s .args .table .now) (L .n * 4) 0 in
-    (s .pre .0, omega arith, s .pre .1, omega arith, ap (λ (t : List KindInfo). getD t k (kind 0 0)) (c .before .before .before .before .before .all-kinds .ensures))
+mul-b : tie.Need-mul-b Inv-loop μ-loop
+mul-b c = search needs
 
-returns-2 : tie.Need-returns-2 Inv-loop μ-loop
-returns-2 c =
-    let a = c .before .before .before .before .before .before .before .before .before .before .args in
-    let table = a .table .now in
-    let text = a .text .now in
-    let L = c .before .before .before .before .before .before .loop in
-    let r = c .before .fault-at in
-    reported (firstFault table text (length table / 4)) (r .result) (L .n) (first-here table text (L .n) (r .result) (length table / 4) (L .inv .1) (sym (r .ensures)) (c .if2 .taken) (c .before .before .before .before .before .loop-test .taken))
+shared-slice-read-b : tie.Need-shared-slice-read-b Inv-loop μ-loop
+shared-slice-read-b c = search needs
+
+add-c : tie.Need-add-c Inv-loop μ-loop
+add-c c = search needs
+
+mul-c : tie.Need-mul-c Inv-loop μ-loop
+mul-c c = search needs
+
+shared-slice-read-c : tie.Need-shared-slice-read-c Inv-loop μ-loop
+shared-slice-read-c c = search needs
+
+plainly-right-requires : tie.Need-plainly-right-requires Inv-loop μ-loop
+plainly-right-requires c κs = search needs
 
 add-n : tie.Need-add-n Inv-loop μ-loop
 add-n c = search needs
@@ -81,11 +76,63 @@ loop-less c = search needs
 
 loop-again : tie.Need-loop-again Inv-loop μ-loop
 loop-again c =
-    let a = c .before .before .before .before .before .before .before .before .before .before .args in
+    let a = c .before .before .before .before .before .before .before .before .before .before .before .args in
     let table = a .table .now in
     let text = a .text .now in
-    let L = c .before .before .before .before .before .before .loop in
-    (omega arith, rw add-one (first-next table text (L .n) (L .inv .1) (sym (c .before .fault-at .ensures) ∙ c .if2 .left)))
+    let L = c .before .before .before .before .before .before .before .loop in
+    let f = fault-read table text (L .n) 0 (sym (c .before .plainly-right .ensures (c .if1 .taken) text)) in
+    (omega arith, rw add-one (first-next table text (L .n) (L .inv .1) f))
+
+returns : tie.Need-returns Inv-loop μ-loop
+returns c =
+    let a = c .before .before .before .before .before .before .before .before .before .before .before .before .args in
+    let table = a .table .now in
+    let text = a .text .now in
+    let L = c .before .before .before .before .before .before .before .before .loop in
+    let f = fault-read table text (L .n) 2 (fault-unknown text (L .n) (getD table (L .n * 4) 0) _ _ _ (c .if2 .taken)) in
+    reported (firstFault table text (length table / 4)) 2 (L .n) (first-here table text (L .n) 2 (length table / 4) (L .inv .1) f (λ e. omega arith) (c .before .before .before .before .before .before .before .loop-test .taken))
+
+cast-info : tie.Need-cast-info Inv-loop μ-loop
+cast-info c = search needs
+
+mul-info : tie.Need-mul-info Inv-loop μ-loop
+mul-info c = search needs
+
+array-copy-out-info : tie.Need-array-copy-out-info Inv-loop μ-loop
+array-copy-out-info c = search needs
+
+node-fault-requires : tie.Need-node-fault-requires Inv-loop μ-loop
+unfolding kindAt
+node-fault-requires c κs =
+    let s = c .before .before .before .before .before .before .before .before .before .before .before .before .before in
+    let k = getD (s .args .table .now) (c .before .before .before .before .before .before .before .before .before .loop .n * 4) 0 in
+    (s .pre .0, omega arith, ap (λ (t : List KindInfo). getD t k (kind 0 0)) (c .before .before .before .before .before .before .before .before .before .before .all-kinds .ensures))
+
+returns-2 : tie.Need-returns-2 Inv-loop μ-loop
+returns-2 c =
+    let a = c .before .before .before .before .before .before .before .before .before .before .before .before .before .before .before .args in
+    let table = a .table .now in
+    let text = a .text .now in
+    let L = c .before .before .before .before .before .before .before .before .before .before .before .loop in
+    let r = c .before .node-fault in
+    let f = fault-read table text (L .n) (r .result) (r .ensures) in
+    reported (firstFault table text (length table / 4)) (r .result) (L .n) (first-here table text (L .n) (r .result) (length table / 4) (L .inv .1) f (c .if3 .taken) (c .before .before .before .before .before .before .before .before .before .before .loop-test .taken))
+
+add-n-2 : tie.Need-add-n-2 Inv-loop μ-loop
+add-n-2 c = search needs
+
+loop-less-2 : tie.Need-loop-less-2 Inv-loop μ-loop
+loop-less-2 c = search needs
+
+loop-again-2 : tie.Need-loop-again-2 Inv-loop μ-loop
+loop-again-2 c =
+    let a = c .before .before .before .before .before .before .before .before .before .before .before .before .before .before .before .args in
+    let table = a .table .now in
+    let text = a .text .now in
+    let L = c .before .before .before .before .before .before .before .before .before .before .before .loop in
+    let r = c .before .node-fault in
+    let f = fault-read table text (L .n) (r .result) (r .ensures) in
+    (omega arith, rw add-one (first-next table text (L .n) (L .inv .1) (f ∙ c .if3 .left)))
 
 returns-3 : tie.Need-returns-3 Inv-loop μ-loop
 returns-3 c =
@@ -104,17 +151,30 @@ first-fault-spec =
     μ-loop
     all-kinds-requires
     loop-holds
+    mul-at
     cast-k
     mul-k
-    mul-k-2
     shared-slice-read-k
-    returns
-    cast-fault-at
-    mul-fault-at
-    array-copy-out-fault-at
-    fault-at-requires
-    returns-2
+    add-a
+    mul-a
+    shared-slice-read-a
+    add-b
+    mul-b
+    shared-slice-read-b
+    add-c
+    mul-c
+    shared-slice-read-c
+    plainly-right-requires
     add-n
     loop-less
     loop-again
+    returns
+    cast-info
+    mul-info
+    array-copy-out-info
+    node-fault-requires
+    returns-2
+    add-n-2
+    loop-less-2
+    loop-again-2
     returns-3)
