@@ -123,7 +123,7 @@ const REMARKS: [(&str, &str); 7] = [
     ("cracked", "do not use"),
 ];
 
-/// The rows with remarks of the main job's sample, over and over, as crate rows builds them: each is a Union, the remark beside the row or
+/// The rows with remarks of the main job's sample, over and over, as crates row and remark build them: each is a Union, the remark beside the row or
 /// filled below it.
 fn test_sheet(marks: bool) -> Table {
     let mut m = Maker::new();
