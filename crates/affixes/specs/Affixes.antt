@@ -4,7 +4,7 @@ use mathlib.Core.Bool.{Bool, true, _&&_}
 use mathlib.Core.List.{List, [], _∷_}
 use lib.ListN.{length}
 use lib.Dec.{ltb}
-use Rattle.utf8.specs.Pick.{pick}
+use Rattle.choice.specs.Pick.{pick}
 use Rattle.build.specs.Sheet.{Sheet, Built, older}
 use Rattle.build.specs.Parts.{isNil, append, group, concat}
 use Rattle.affixes.specs.declared.Shared.{Shared}

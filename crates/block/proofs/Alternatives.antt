@@ -9,9 +9,9 @@ use mathlib.Core.List.{List, [], _∷_, map}
 use lib.ListN.{length, take, drop}
 use lib.Dec.{leb}
 use borrow.Author.Tests.{ltb-true, leb-true}
-use Rattle.utf8.specs.Pick.{pick}
+use Rattle.choice.specs.Pick.{pick}
 use Rattle.table.specs.Document.{Doc, nil, flatAlt, union, fail}
-use Rattle.utf8.proofs.Tests.{and-true}
+use Rattle.choice.proofs.Tests.{and-true}
 use Rattle.build.specs.declared.Counts.{Counts}
 use Rattle.build.specs.declared.Why.the-variants.{Sizes}
 use Rattle.build.specs.declared.Made.the-variants.{Refused}

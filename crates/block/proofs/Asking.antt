@@ -11,8 +11,8 @@ use mathlib.Core.List.{List, [], _∷_}
 use lib.ListN.{length}
 use lib.Dec.{eqb, leb}
 use borrow.Author.Tests.{ltb-true, eqb-true, eq-eqb, ne-eqb}
-use Rattle.utf8.specs.Pick.{pick}
-use Rattle.utf8.proofs.Tests.{and-true}
+use Rattle.choice.specs.Pick.{pick}
+use Rattle.choice.proofs.Tests.{and-true}
 use Rattle.build.specs.declared.Counts.{Counts}
 use Rattle.build.specs.declared.Why.{Why}
 use Rattle.build.specs.declared.Why.the-variants.{Sizes, Operand, Amount, Text, Bytes, Nodes}

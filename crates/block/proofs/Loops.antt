@@ -162,7 +162,8 @@ module _ (c : Counts) (table text : List ℕ) (b : Block) (sh : Shared) (ps ss :
   left-zero h {c₁} {n₁} {table₁} w = subst (λ (j : ℕ). Left c table text b sh ps ss qs whole j c₁ n₁ table₁) (omega arith) w
 
 pub alternative-turn : (c : Counts) (table text : List ℕ) (b : Block) (sh : Shared) (ps ss : List ℕ) (qs : List Bool) (split : ℕ) → 0 < split → {m : Made} {table₁ : List ℕ} → Ran c table text (alternative (counted c table text) b sh ps ss qs split) m table₁ → Ran c table text (alternative (counted c table text) b sh ps ss qs (suc (split - 1))) m table₁
-alternative-turn c table text b sh ps ss qs split h {m} {table₁} ran = subst (λ (j : ℕ). Ran c table text (alternative (counted c table text) b sh ps ss qs j) m table₁) (omega arith) ran
+alternative-turn c table text b sh ps ss qs split h {m} {table₁} ran =
+    subst (λ (j : ℕ). Ran c table text (alternative (counted c table text) b sh ps ss qs j) m table₁) (omega arith) ran
 
 module _ {c : Counts} {table text : List ℕ} (r : Ready c table text) {b : Block} {sh : Shared} {ps ss : List ℕ} (k : Hand c b sh ps ss) (qs : List Bool) (whole : Built) where
   abbrev first : Sheet

@@ -4,7 +4,7 @@ use mathlib.Core.Bool.{Bool, true, _&&_}
 use mathlib.Core.List.{List, [], _∷_}
 use lib.ListN.{length, take, drop}
 use lib.Dec.{ltb}
-use Rattle.utf8.specs.Pick.{pick}
+use Rattle.choice.specs.Pick.{pick}
 use Rattle.table.specs.Document.{Doc, nil, flatAlt, union, fail}
 use Rattle.build.specs.Documents.{isNilDoc, appendDoc, groupDoc, nestDoc, concatDoc}
 

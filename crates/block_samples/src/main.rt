@@ -88,7 +88,7 @@ fn sample(hard: bool, width: u32) {
     let mut out = [0u8; 256];
     let mut events = [0u32; 3];
     let mut work = [0u32; 16384];
-    let r = sheet::layout(
+    let r = layout::layout(
         &table[..words],
         &text,
         width,

@@ -1,2 +1,3 @@
--- The laws of a run of stores.
+-- The laws of a run of stores, and of text bytes.
 pub mod Put
+pub mod Octets

@@ -1,2 +1,4 @@
--- What a run of stores leaves of a buffer.
+-- What a run of stores leaves of a buffer, and what text bytes are well-formed.
 pub mod Run
+pub mod Utf8
+pub mod Reader

@@ -11,9 +11,9 @@ use lib.ListN.{length, take, drop, replicate, length-append}
 use lib.Seq.{take-length, drop-at}
 use lib.Dec.{eqb, leb}
 use borrow.Author.Tests.{le-leb}
-use Rattle.utf8.specs.Pick.{pick}
+use Rattle.choice.specs.Pick.{pick}
 use Rattle.table.specs.Kinds.{kinds, kindAt}
-use Rattle.utf8.specs.Utf8.{ascii}
+use Rattle.buffer.specs.Utf8.{ascii}
 use Rattle.table.specs.Fault.{columnsRight, faultOf}
 use Rattle.table.specs.Document.{Doc, doc, nil, append, group, flatAlt, hardline, text, align}
 use Rattle.build.specs.Sheet.{Sheet, Built, add, write}

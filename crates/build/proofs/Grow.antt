@@ -11,7 +11,7 @@ use mathlib.Core.Bool.{Bool, true, false, _||_}
 use mathlib.Core.List.{List, [], _∷_, _++_, append-assoc, append-nil}
 use lib.ListN.{length, length-append}
 use lib.Dec.{eqb}
-use Rattle.utf8.specs.Pick.{pick}
+use Rattle.choice.specs.Pick.{pick}
 use Rattle.build.specs.Sheet.{Sheet, Built, older, add, write}
 use Rattle.build.specs.Parts.{isNil, stays, nil, append, group, nest, hardline, text, space, line, line₀, hang, joined}
 

@@ -14,7 +14,7 @@ use borrow.Author.Tests.{ltb-true, leb-true}
 use Rattle.table.specs.Fault.{Fault, firstFault, none, columnsRight}
 use Rattle.table.specs.Document.{Doc, nil, flatAlt, hardline, annotated, union, align, fail}
 use Rattle.table.specs.declared.NodeNo.{NodeNo}
-use Rattle.utf8.proofs.Tests.{and-true}
+use Rattle.choice.proofs.Tests.{and-true}
 use Rattle.table.proofs.Accept.{clean-of}
 use Rattle.build.specs.declared.Counts.{Counts}
 use Rattle.build.specs.declared.Made.the-variants.{Node}

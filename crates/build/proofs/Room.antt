@@ -10,7 +10,7 @@ use mathlib.Core.Path.{_≡_, refl, sym}
 use mathlib.Core.Bool.{Bool, true, false, _&&_, _||_, true≢false}
 use lib.Dec.{eqb, leb}
 use borrow.Author.Tests.{ltb-false, leb-true, eqb-true, not-false, le-ltb, le-leb, eq-eqb, ne-eqb}
-use Rattle.utf8.specs.Pick.{pick}
+use Rattle.choice.specs.Pick.{pick}
 use Rattle.build.specs.declared.Counts.{Counts}
 use Rattle.build.specs.declared.Why.{Why}
 use Rattle.build.specs.declared.Asked.{Asked}

@@ -9,7 +9,7 @@ use mathlib.Core.Bool.{Bool, true, false}
 use mathlib.Core.List.{List, _++_}
 use lib.ListN.{getD, List·getD-append}
 use lib.Seq.{getD-append-add}
-use Rattle.utf8.specs.Pick.{pick}
+use Rattle.choice.specs.Pick.{pick}
 use Rattle.table.specs.Node.{word}
 use Rattle.build.specs.Sheet.{Sheet, Built, older, add}
 use Rattle.build.specs.Parts.{isNil, append}

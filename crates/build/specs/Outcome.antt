@@ -4,7 +4,7 @@ use mathlib.Core.Bool.{Bool, not, _&&_, _||_}
 use mathlib.Core.List.{List}
 use lib.ListN.{length}
 use lib.Dec.{eqb, ltb, leb}
-use Rattle.utf8.specs.Pick.{pick}
+use Rattle.choice.specs.Pick.{pick}
 use Rattle.build.specs.declared.Counts.{Counts}
 use Rattle.build.specs.declared.Why.{Why}
 use Rattle.build.specs.declared.Why.the-variants.{Sizes, Operand, Amount, Text, Bytes, Nodes}

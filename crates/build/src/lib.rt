@@ -13,9 +13,9 @@ ghost use Rattle.build.specs.Parts.{stays, nest};
 ghost use Rattle.build.specs.Solid.{nestAdds};
 ghost use Rattle.build.specs.Outcome.{fits, asked, answered, outcome, settled, onward};
 ghost use Rattle.build.specs.Constructors.{has, nestRight, appendMade};
+use buffer::utf8::below_128;
 use table::Indent;
 use table::NodeNo;
-use utf8::below_128;
 
 mod composed;
 mod lists;

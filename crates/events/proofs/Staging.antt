@@ -11,8 +11,8 @@ use lib.ListN.{length, replicate}
 use Rattle.rules.specs.Layout as rules
 use Rattle.rules.specs.Call.{Given, refusal, call, wordsOf, padded}
 use Rattle.rules.proofs.Answers.{answered}
-use Rattle.sheet.specs.declared.Report.{Report}
-use Rattle.sheet.specs.Called as words
+use Rattle.layout.specs.declared.Report.{Report}
+use Rattle.layout.specs.Called as words
 use Rattle.events.specs.declared.Event.{Event}
 use Rattle.events.specs.Records.{published}
 use Rattle.events.specs.Called.{asked, noted, Called}

@@ -4,8 +4,8 @@ use Prim.Native.Nat.{ℕ}
 use mathlib.Core.Path.{_≡_, sym, _∙_}
 use mathlib.Core.List.{List}
 use Rattle.rules.specs.Call.{Given}
-use Rattle.sheet.specs.declared.Report.{Report}
-use Rattle.sheet.proofs.Demands.{report-is}
+use Rattle.layout.specs.declared.Report.{Report}
+use Rattle.layout.proofs.Demands.{report-is}
 use Rattle.events.specs.declared.Event.{Event}
 use Rattle.events.specs.Called.{Called}
 

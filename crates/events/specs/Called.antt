@@ -6,7 +6,7 @@ use mathlib.Core.List.{List, [], _∷_, _++_}
 use lib.ListN.{length, replicate}
 use Rattle.rules.specs.Layout as rules
 use Rattle.rules.specs.Call.{Given, call, padded}
-use Rattle.sheet.specs.declared.Report.{Report}
+use Rattle.layout.specs.declared.Report.{Report}
 use Rattle.events.specs.declared.Event.{Event}
 use Rattle.events.specs.Records.{none}
 

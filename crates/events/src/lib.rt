@@ -3,8 +3,8 @@
 // The engine notes its events as words; the functions here, proved by walks of their code, are all that write records.
 // A record's size stands in one place, `rules::EVENT_WORDS` with `eventWords` of rules' specs. A field more is a field of `Event`, a line of
 // `record_at` and of `eventAt`, and that number.
+use layout::Report;
 use rules::EVENT_WORDS;
-use sheet::Report;
 use table::NodeNo;
 ghost use mathlib.Core.Path.{_≡_};
 ghost use lib.ListN.{length, set, replicate};
@@ -113,7 +113,7 @@ fn staged(
         };
     }
     let n = slots * EVENT_WORDS;
-    sheet::layout(table, text, width, limit, out, &mut words[..n], work)
+    layout::layout(table, text, width, limit, out, &mut words[..n], work)
 }
 
 // Lays a table out over lent buffers, the events as records.

@@ -36,7 +36,7 @@ fn main() {
     let mut out = [0u8; 64];
     let mut events = [0u32; 3];
     let mut work = [0u32; 16384];
-    let r = sheet::layout(
+    let r = layout::layout(
         &table[..words],
         &text[..bytes],
         12,

@@ -4,7 +4,7 @@ use mathlib.Core.Bool.{true}
 use mathlib.Core.List.{List, [], _∷_, _++_, map}
 use lib.ListN.{length}
 use lib.Dec.{eqb}
-use Rattle.utf8.specs.Pick.{pick}
+use Rattle.choice.specs.Pick.{pick}
 use Rattle.table.specs.Document.{Doc, nil, hardline}
 use Rattle.build.specs.Documents.{appendDoc, lineDoc, softlineDoc, concatDoc, intersperseDoc}
 use Rattle.block.specs.Documents.{blockDoc}

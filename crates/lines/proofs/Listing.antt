@@ -16,7 +16,7 @@ use lib.ListN.{length, getD, drop, replicate}
 use lib.Seq.{drop-drop}
 use lib.Dec.{eqb, ltb}
 use borrow.Author.Tests.{lt-ltb, le-ltb, le-leb, lt-leb, eq-eqb, ne-eqb}
-use Rattle.utf8.specs.Pick.{pick}
+use Rattle.choice.specs.Pick.{pick}
 use Rattle.pallets.proofs.Reading.{more, done}
 use Rattle.lines.specs.Numbers.{digitOf, further, valueOf, digits, between, value, times, listed}
 

@@ -5,7 +5,7 @@ use mathlib.Core.List.{List, [], _∷_, _++_}
 use lib.Dec.{eqb, ltb, leb}
 use lib.ListN.{length, take, replicate}
 use Rattle.buffer.specs.Run.{put}
-use Rattle.utf8.specs.Pick.{pick}
+use Rattle.choice.specs.Pick.{pick}
 
 -- the value of a digit, 0 to 9 and a to f; 16 for no digit
 abbrev pub digitOf : ℕ → ℕ

@@ -8,7 +8,7 @@ ghost use Prim.Native.Nat.{_+_, _-_, _≤_};
 ghost use lib.ListN.{length, take, drop, replicate};
 ghost use lib.Dec.{ltb};
 ghost use Rattle.buffer.specs.Run.{put};
-ghost use Rattle.utf8.specs.Pick.{pick};
+ghost use Rattle.choice.specs.Pick.{pick};
 ghost use Rattle.pallets.specs.Lines.{indexOf};
 ghost use Rattle.lines.specs.Numbers.{digitOf, further, valueOf, digits, between, value, listed, stored, countAfter};
 ghost use Rattle.lines.specs.Bytes.{bytesOf};

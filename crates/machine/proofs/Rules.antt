@@ -7,7 +7,7 @@ use mathlib.Core.List.{List, [], _∷_}
 use native.Mathlib.Omega.{arith}
 use lib.ListN.{length, take, drop}
 use lib.Dec.{leb, ltb}
-use Rattle.utf8.specs.Pick.{pick}
+use Rattle.choice.specs.Pick.{pick}
 use Rattle.table.specs.Node.{Node, nil, append, group, flatAlt, nest, hardline, text, annotated, union, align, fail, nodeAt}
 use Rattle.table.specs.Unfold.{Tree, treeOf, tree}
 use Rattle.table.specs.Valid.{Sound, Valid}

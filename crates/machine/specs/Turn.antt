@@ -4,7 +4,7 @@ use mathlib.Core.Bool.{Bool, true, false, _||_}
 use mathlib.Core.List.{List, [], _∷_}
 use lib.ListN.{length, take, drop}
 use lib.Dec.{leb, ltb}
-use Rattle.utf8.specs.Pick.{pick}
+use Rattle.choice.specs.Pick.{pick}
 use Rattle.table.specs.Node.{Node, nil, append, group, flatAlt, nest, hardline, text, annotated, union, align, fail, nodeAt}
 use Rattle.rules.specs.Layout.{Limits, Page, blank, Mode, flat, broken, Report, taken, wrote, fed, marked, nested}
 use Rattle.machine.specs.Waiting.{Saved, Entry, node, trial, mark, back, nextIndent}

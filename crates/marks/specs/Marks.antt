@@ -3,7 +3,7 @@ use Prim.Native.Nat.{ℕ, _+_, _-_}
 use mathlib.Core.Bool.{Bool}
 use mathlib.Core.List.{List, [], _∷_}
 use lib.Dec.{eqb, ltb}
-use Rattle.utf8.specs.Pick.{pick}
+use Rattle.choice.specs.Pick.{pick}
 
 -- how many marks are open at an offset, of the events in order, three words each: offset, 1 opens and 0 closes, label
 unfoldable pub openAt : ℕ → List ℕ → ℕ → ℕ

@@ -18,8 +18,8 @@ use lib.ListN.{length, getD, take, drop}
 use lib.Seq.{drop-cons, drop-drop}
 use lib.Dec.{eqb, leb}
 use borrow.Author.Tests.{leb-true, le-leb, lt-leb, lt-ltb, le-ltb, eq-eqb, ne-eqb}
-use Rattle.utf8.specs.Pick.{pick}
-use Rattle.utf8.proofs.Tests.{and-true}
+use Rattle.choice.specs.Pick.{pick}
+use Rattle.choice.proofs.Tests.{and-true}
 use Rattle.pallets.specs.Numbers.{digit, digits, numberOf, Small}
 use Rattle.pallets.specs.Lines.{indexOf, before, lines, characters, blank, controls}
 use Rattle.pallets.specs.declared.numbers.Amount.{Amount}

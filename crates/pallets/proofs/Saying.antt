@@ -15,7 +15,7 @@ use lib.ListN.{length, getD, take, drop, length-drop}
 use lib.Seq.{take-all}
 use lib.Dec.{eqb, ltb}
 use borrow.Author.Tests.{le-leb, lt-leb, ne-eqb}
-use Rattle.utf8.specs.Pick.{pick}
+use Rattle.choice.specs.Pick.{pick}
 use Rattle.pallets.specs.Numbers.{numberOf, tenthsAdd, tenthsOf}
 use Rattle.pallets.specs.Lines.{indexOf, lines, bodyEnd, characters, blank}
 use Rattle.pallets.specs.Pallets.{separator, cutsAt, fieldsOf, between, measured, palletOf, palletAt, said, parsed, verdictOf, firstOf, checked}

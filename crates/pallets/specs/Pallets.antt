@@ -3,8 +3,8 @@ use Prim.Native.Nat.{ℕ, _+_, _-_, _<_}
 use mathlib.Core.List.{List, [], _∷_}
 use lib.ListN.{length, getD, take, drop}
 use lib.Dec.{eqb, leb, ltb}
-use Rattle.utf8.specs.Pick.{pick}
-use Rattle.utf8.specs.Utf8.{wellFormed}
+use Rattle.choice.specs.Pick.{pick}
+use Rattle.buffer.specs.Utf8.{wellFormed}
 use Rattle.pallets.specs.Lines.{indexOf, bodyEnd, characters, blank, controls}
 use Rattle.pallets.specs.Numbers.{numberOf, tenthsOf}
 use Rattle.pallets.specs.declared.numbers.Amount.{Amount}

@@ -4,6 +4,7 @@ ghost use mathlib.Core.Path.{_≡_};
 ghost use Prim.Native.Nat.{_+_, _<_, _^_};
 ghost use lib.ListN.{length};
 ghost use Rattle.pallets.specs.Pallets.{fieldsOf, Ordered, measured, palletOf, said, parsed};
+use buffer::utf8::well_formed;
 use bytes::columns;
 use bytes::has_controls;
 use bytes::is_blank;
@@ -11,7 +12,6 @@ use bytes::part_end;
 use numbers::Amount;
 use numbers::number;
 use numbers::tenths;
-use utf8::well_formed;
 
 pub mod bytes;
 pub mod input;

@@ -8,11 +8,11 @@ use native.Mathlib.Omega.{arith}
 use borrow.Author.Tests.{lt-leb, le-leb}
 use lib.Dec.{leb}
 use lib.ListN.{length, set, replicate, length-replicate}
-use Rattle.utf8.specs.Pick.{pick}
+use Rattle.choice.specs.Pick.{pick}
 use Rattle.rules.specs.Layout as rules
 use Rattle.rules.specs.Call.{Given, refusal, call, wordsOf, padded}
-use Rattle.sheet.specs.declared.Report.{Report}
-use Rattle.sheet.specs.Called as words
+use Rattle.layout.specs.declared.Report.{Report}
+use Rattle.layout.specs.Called as words
 use Rattle.events.specs.declared.Event.{Event}
 use Rattle.events.specs.Called as records
 use Rattle.pursegable.specs.Exported.{answering, told, five, Records, Words}

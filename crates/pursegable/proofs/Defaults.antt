@@ -41,7 +41,7 @@ use Rattle.rules.specs.Call as rules
 use Rattle.events.specs.declared.Event.{Event}
 use Rattle.events.proofs.Event as T
 use Rattle.events.proofs.Event.Laws as T′
-use Rattle.sheet.specs.Called.{defaultWidth, defaultSteps}
+use Rattle.layout.specs.Called.{defaultWidth, defaultSteps}
 use Rattle.events.specs.Called.{asked}
 use Rattle.events.proofs.Local.{big-lit}
 use Rattle.pursegable.specs.Exported.{Records}

@@ -5,7 +5,7 @@ use mathlib.Core.Path.{_≡_}
 use mathlib.Core.List.{List, [], _∷_}
 use lib.ListN.{length, replicate}
 use lib.Dec.{leb}
-use Rattle.utf8.specs.Pick.{pick}
+use Rattle.choice.specs.Pick.{pick}
 use Rattle.rules.specs.Layout as rules
 use Rattle.rules.specs.Call.{Given, call, refusal, wordsOf, padded}
 use Rattle.events.specs.declared.Event.{Event}

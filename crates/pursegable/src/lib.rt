@@ -5,13 +5,13 @@
 mod building;
 
 use events::Event;
-use sheet::Report;
+use layout::Report;
 ghost use mathlib.Core.Path.{_≡_};
 ghost use mathlib.Core.List.{[], _∷_};
 ghost use lib.ListN.{length};
 ghost use lib.Dec.{leb};
-ghost use Rattle.utf8.specs.Pick.{pick};
-ghost use Rattle.sheet.specs.Called.{given, defaultWidth, defaultSteps};
+ghost use Rattle.choice.specs.Pick.{pick};
+ghost use Rattle.layout.specs.Called.{given, defaultWidth, defaultSteps};
 ghost use Rattle.events.specs.Called.{asked};
 ghost use Rattle.pursegable.specs.Exported.{told, Records, Words};
 
@@ -83,8 +83,8 @@ pub extern "C" fn pursegable_sheet(
     pursegable_layout(
         table,
         text,
-        sheet::DEFAULT_WIDTH,
-        sheet::DEFAULT_STEPS,
+        layout::DEFAULT_WIDTH,
+        layout::DEFAULT_STEPS,
         out,
         events,
         work,
@@ -107,8 +107,8 @@ pub extern "C" fn pursegable_label(
     pursegable_layout(
         table,
         text,
-        sheet::DEFAULT_WIDTH,
-        sheet::DEFAULT_STEPS,
+        layout::DEFAULT_WIDTH,
+        layout::DEFAULT_STEPS,
         out,
         events,
         work,
@@ -131,7 +131,7 @@ pub extern "C" fn pursegable_layout_words(
     ensures { λ r. ⌜ Words (length (now (events .entry))) (given (now (table .entry)) (now (text .entry)) width limit (length (now (out .entry))) (length (now (events .entry))) (length (now (work .entry)))) r (now (out .exit)) (now (events .exit)) (now (work .exit)) (now (report .exit)) (length (now (report .entry))) ⌝ }
 {
     let limit = limit_for(limit, report.len());
-    let r = sheet::layout(table, text, width, limit, out, events, work);
+    let r = layout::layout(table, text, width, limit, out, events, work);
     tell(r, report);
     r.answer
 }

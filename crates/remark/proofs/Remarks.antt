@@ -11,7 +11,7 @@ use lib.ListN.{length, take, drop, length-take, length-drop}
 use lib.Seq.{take-all}
 use lib.Dec.{eqb}
 use borrow.Author.Tests.{eq-eqb, ne-eqb}
-use Rattle.utf8.specs.Pick.{pick}
+use Rattle.choice.specs.Pick.{pick}
 use Rattle.table.specs.Document.{Doc, hardline, union}
 use Rattle.build.specs.Documents.{appendDoc}
 use Rattle.words.specs.Words.{skipped, trimmed}

@@ -3,7 +3,7 @@ use Prim.Native.Nat.{ℕ}
 use mathlib.Core.List.{List, [], _∷_}
 use lib.ListN.{length}
 use lib.Dec.{eqb}
-use Rattle.utf8.specs.Pick.{pick}
+use Rattle.choice.specs.Pick.{pick}
 use Rattle.table.specs.Document.{Doc, hardline, union}
 use Rattle.build.specs.Documents.{appendDoc, nestDoc, concatDoc}
 use Rattle.pallets.specs.Pallets.{between}

@@ -9,7 +9,7 @@ use lib.ListN.{length, take}
 use lib.Seq.{length-take-le}
 use lib.Dec.{ltb}
 use Rattle.rules.specs.Call.{eventWords}
-use Rattle.utf8.specs.Pick.{pick}
+use Rattle.choice.specs.Pick.{pick}
 use Rattle.table.specs.Valid.{Valid}
 use Rattle.table.specs.declared.NodeNo.{NodeNo}
 use Rattle.rules.specs.Layout.{Page, Report, marked}

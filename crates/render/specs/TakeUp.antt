@@ -6,7 +6,7 @@ use mathlib.Core.List.{List, [], _∷_}
 use lib.ListN.{length}
 use lib.Dec.{ltb}
 use Rattle.rules.specs.Call.{eventWords}
-use Rattle.utf8.specs.Pick.{pick}
+use Rattle.choice.specs.Pick.{pick}
 use Rattle.rules.specs.Layout.{Limits, Page, marked}
 use Rattle.machine.specs.Waiting.{Entry, node, trial, mark, back}
 use Rattle.machine.specs.Turn.{Turned, on, stop}

@@ -1,7 +1,7 @@
 // The engine: `best` lays a valid table out, node after node.
 //
 // The node in hand is visited, then what waits is taken up: ends of annotations and of trials, until a node is in hand again or nothing waits.
-// Not an entry point of the library: the crate sheet tests sizes and the table before it comes here, and clears the buffers after it.
+// Not an entry point of the library: the crate layout tests sizes and the table before it comes here, and clears the buffers after it.
 use lay::State;
 use lay::Turn;
 use table::Column;

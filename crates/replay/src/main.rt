@@ -5,9 +5,9 @@
 // `|` between. All buffers are soiled before the call. Written are answer, place and steps, the bytes used, the words of the
 // events used, how much of output, events and work is not zero and must be, and the name.
 ghost use Prim.Native.Nat.{_≤_};
+use layout::Report;
 use libc::STDOUT_FILENO;
 use rules::EVENT_WORDS;
-use sheet::Report;
 
 // Room for some more event records than a call may be lent, in words.
 const SLOTS: usize = 4100;
@@ -94,7 +94,7 @@ fn run(
     work: &mut [u32],
     name: &[u8],
 ) {
-    let r = sheet::layout(table, text, width, limit, out, events, work);
+    let r = layout::layout(table, text, width, limit, out, events, work);
     let mut wide = [0u32; 65600];
     widen(out, &mut wide);
     let room = least(out.len(), 65600);

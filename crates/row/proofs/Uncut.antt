@@ -12,9 +12,9 @@ use lib.ListN.{length, getD, take, drop, length-append, length-replicate}
 use lib.Seq.{length-take-le, take-all}
 use lib.Dec.{eqb, leb, ltb}
 use borrow.Author.Tests.{le-leb, lt-leb, leb-true, ltb-false}
-use Rattle.utf8.specs.Pick.{pick}
-use Rattle.utf8.specs.Utf8.{Range, to, within, tail, Start, start, follow, never, owed, wellFormed}
-use Rattle.utf8.proofs.Tests.{and-true}
+use Rattle.choice.specs.Pick.{pick}
+use Rattle.buffer.specs.Utf8.{Range, to, within, tail, Start, start, follow, never, owed, wellFormed}
+use Rattle.choice.proofs.Tests.{and-true}
 use Rattle.pallets.specs.Lines.{indexOf, goesOn, characters, blank, controls}
 use Rattle.pallets.specs.Numbers.{numberOf, tenthsAdd, tenthsOf}
 use Rattle.pallets.specs.Numbers as numbers

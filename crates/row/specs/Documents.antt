@@ -2,7 +2,7 @@
 use Prim.Native.Nat.{ℕ}
 use mathlib.Core.List.{List}
 use lib.Dec.{eqb}
-use Rattle.utf8.specs.Pick.{pick}
+use Rattle.choice.specs.Pick.{pick}
 use Rattle.table.specs.Document.{Doc, annotated}
 use Rattle.tolerance.specs.Tolerance.{labelOf}
 use Rattle.pallets.specs.declared.Pallet.{Pallet}

@@ -5,7 +5,7 @@ use mathlib.Core.Path.{_≡_, refl}
 use mathlib.Core.List.{List, [], _∷_}
 use Rattle.table.specs.Node.{wayOf}
 use Rattle.table.specs.Document.{Doc, append, nest, hardline, text, annotated, union}
-use Rattle.utf8.specs.Utf8.{owed, wellFormed, ascii}
+use Rattle.buffer.specs.Utf8.{owed, wellFormed, ascii}
 use Rattle.build.specs.Documents.{appendDoc, groupDoc, nestDoc, textDoc, joinedDoc, concatDoc, separatedDoc, intersperseDoc}
 use Rattle.block.specs.Documents.{bareDoc, headDoc, tailDoc, coreDoc, wrapsDoc, alternativeDoc, unionsDoc, blockDoc}
 use Rattle.pallets.specs.Lines.{indexOf, lines, bodyEnd, characters, blank, controls}

@@ -9,7 +9,7 @@ use mathlib.Core.List.{List, []}
 use lib.Dec.{eqb, ltb}
 use lib.ListN.{length}
 use borrow.Author.Tests.{eqb-false}
-use Rattle.utf8.specs.Pick.{pick}
+use Rattle.choice.specs.Pick.{pick}
 use Rattle.table.specs.Kinds.{kindAt}
 use Rattle.table.specs.Fault.{Fault, fault, none, unusedZero, childrenBelow, nestInRange, rangeInside, textRight, faultOf, faultAt, orElse, firstFault, sizesRight, check}
 use Rattle.table.specs.Unfold.{Tree, tree, root}

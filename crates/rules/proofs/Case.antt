@@ -10,7 +10,7 @@ use mathlib.Core.List.{List, [], _∷_}
 use lib.Dec.{eqb}
 use Rattle.table.specs.Node.{adds, subtracts, Node, nil, append, group, flatAlt, nest, hardline, text, annotated, union, align, fail, nodeAt}
 use Rattle.table.specs.Kinds.{kinds, kindAt}
-use Rattle.utf8.specs.Utf8.{owed, wellFormed, ascii}
+use Rattle.buffer.specs.Utf8.{owed, wellFormed, ascii}
 use Rattle.table.specs.Fault.{columnsRight, faultOf, faultAt, firstFault, check}
 use Rattle.table.specs.Unfold.{treeOver, trees, tree}
 use Rattle.rules.specs.Layout.{Report, visit, fit, rest, put, event, lay, layout}

@@ -5,7 +5,7 @@
 -- Assumes nothing.
 use mathlib.Core.Path.{_≡_, refl, subst⁻¹}
 use mathlib.Core.Bool.{Bool, true, false}
-use Rattle.utf8.specs.Pick.{pick}
+use Rattle.choice.specs.Pick.{pick}
 use Rattle.table.specs.Fault.{Fault, none, check}
 use Rattle.table.specs.Unfold.{tree, root}
 use Rattle.rules.specs.Layout.{Report, layout}

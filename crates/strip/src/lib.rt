@@ -124,7 +124,7 @@ fn lay_out(table: &[u32], text: &[u8], print: i32, tell: i32) -> bool {
     let mut out = [0u8; 65536];
     let mut events = [0u32; EVENTS];
     let mut work = [0u32; 16384];
-    let r = sheet::sheet(table, text, &mut out, &mut events, &mut work);
+    let r = layout::sheet(table, text, &mut out, &mut events, &mut work);
     if r.answer != 0 {
         io::write_all(tell, b"the layout answers ");
         io::print_decimal(tell, r.answer as u64);

@@ -16,13 +16,13 @@ use mathlib.Core.List.{List}
 use lib.ListN.{length, take, drop, length-take, length-drop}
 use lib.Dec.{eqb, ltb, leb}
 use borrow.Author.Tests.{ltb-true, leb-true, eqb-true, eqb-false, not-true, not-false, lt-ltb, le-leb, lt-leb, leb-false, eq-eqb, ne-eqb}
-use Rattle.utf8.specs.Pick.{pick}
+use Rattle.choice.specs.Pick.{pick}
 use Rattle.table.specs.Kinds.{kindAt}
-use Rattle.utf8.specs.Utf8.{wellFormed, ascii}
+use Rattle.buffer.specs.Utf8.{wellFormed, ascii}
 use Rattle.table.specs.Fault.{Fault, fault, none, unusedZero, childrenBelow, nestInRange, columnsRight, faultOf, faultAt, orElse, firstFault, sizesRight, check}
 use Rattle.table.specs.Accepted.{NodeRight, Accepted}
-use Rattle.utf8.proofs.Tests.{and-true, true-and, or-true, true-or, passed, passes}
-use Rattle.utf8.proofs.Octets.{ascii-well}
+use Rattle.choice.proofs.Tests.{and-true, true-and, or-true, true-or, passed, passes}
+use Rattle.buffer.proofs.Octets.{ascii-well}
 
 -- ---- a Text's bytes and columns
 

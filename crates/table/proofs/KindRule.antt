@@ -10,7 +10,7 @@ use borrow.Author.Tests.{eqb-true}
 use Rattle.table.specs.declared.KindInfo.{KindInfo}
 use Rattle.table.specs.Kinds.{kind, kinds, kindAt}
 use Rattle.table.specs.Node.{Node, nil, append, group, flatAlt, nest, hardline, text, annotated, union, align, fail, nodeOf}
-use Rattle.utf8.proofs.Tests.{and-true, all-at}
+use Rattle.choice.proofs.Tests.{and-true, all-at}
 
 -- the children of a node
 abbrev pub children : Node → List ℕ

@@ -7,7 +7,7 @@ use mathlib.Core.List.{List}
 use lib.ListN.{length, take, drop}
 use Rattle.table.specs.Kinds.{kindAt}
 use Rattle.table.specs.Node.{word}
-use Rattle.utf8.specs.Utf8.{wellFormed, ascii}
+use Rattle.buffer.specs.Utf8.{wellFormed, ascii}
 
 -- the words b and c of a Nest
 pub record NestRight (b c : ℕ) : Type 0 where

@@ -4,10 +4,10 @@ use mathlib.Core.Bool.{Bool, not, _&&_, _||_}
 use mathlib.Core.List.{List}
 use lib.ListN.{length, take, drop}
 use lib.Dec.{eqb, ltb, leb}
-use Rattle.utf8.specs.Pick.{pick}
+use Rattle.choice.specs.Pick.{pick}
 use Rattle.table.specs.Kinds.{kindAt}
 use Rattle.table.specs.Node.{word}
-use Rattle.utf8.specs.Utf8.{wellFormed, ascii}
+use Rattle.buffer.specs.Utf8.{wellFormed, ascii}
 
 -- an answer and its place; answer 0 for none
 pub record Fault : Type 0 where

@@ -7,12 +7,46 @@ ghost use mathlib.Core.List.{List};
 ghost use Prim.Native.Nat.{ℕ, _/_, _≤_, _<_};
 ghost use lib.ListN.{length};
 ghost use Rattle.table.specs.Kinds.{kinds, kindAt};
-ghost use Rattle.utf8.specs.Utf8.{ascii};
+ghost use Rattle.buffer.specs.Utf8.{ascii};
 ghost use Rattle.table.specs.Parts.{Tells, textFault};
 ghost use Rattle.table.specs.Fault.{unusedZero, childrenBelow, nestInRange, columnsRight, faultOf, firstFault, sizesRight, check};
-use utf8::below_128;
-use utf8::plainly_below_128;
-use utf8::well_formed;
+use buffer::utf8::below_128;
+use buffer::utf8::plainly_below_128;
+use buffer::utf8::well_formed;
+
+// The kinds by name, with document 01's numbers.
+pub const NIL: u32 = 0;
+
+pub const APPEND: u32 = 1;
+
+pub const GROUP: u32 = 2;
+
+pub const FLAT_ALT: u32 = 3;
+
+pub const NEST: u32 = 4;
+
+pub const HARDLINE: u32 = 5;
+
+pub const TEXT: u32 = 6;
+
+pub const ANNOTATED: u32 = 7;
+
+pub const UNION: u32 = 8;
+
+pub const ALIGN: u32 = 9;
+
+pub const FAIL: u32 = 10;
+
+// How many kinds there are.
+pub const KIND_COUNT: u32 = 11;
+
+// A node's four words, where they travel together.
+pub struct Words {
+    pub kind: u32,
+    pub a: u32,
+    pub b: u32,
+    pub c: u32,
+}
 
 // How many children a kind has, and how many words it uses. Children and used words come first among a, b, c.
 pub struct KindInfo {
@@ -144,7 +178,7 @@ fn children_below(n: NodeNo, children: u32, a: u32, b: u32) -> bool
 fn nest_in_range(k: u32, b: u32, c: u32) -> bool
     ensures { λ r. ⌜ r ≡ nestInRange k b c ⌝ }
 {
-    if k != 4 {
+    if k != NEST {
         return true;
     }
     (b <= 1000) & (c <= 1)
@@ -191,10 +225,10 @@ fn text_fault(text: &[u8], plain: bool, a: u32, b: u32, c: u32) -> u32
 fn plainly_right(n: NodeNo, k: u32, a: u32, b: u32, c: u32) -> bool
     ensures { λ r. ⌜ (r ≡ true → (text : List ℕ) → faultOf text (n .0) k a b c ≡ 0) ⌝ }
 {
-    if k == 1 {
+    if k == APPEND {
         return (a < n.0) & (b < n.0) & (c == 0);
     }
-    if k == 2 {
+    if k == GROUP {
         return (a < n.0) & (b == 0) & (c == 0);
     }
     false
@@ -214,7 +248,7 @@ fn node_fault(
     requires { ⌜ (plain ≡ ascii (now text)) × (k < 11) × (info ≡ kindAt k) ⌝ }
     ensures { λ r. ⌜ r ≡ faultOf (now (text .entry)) (n .0) k a b c ⌝ }
 {
-    if k == 6 {
+    if k == TEXT {
         return text_fault(text, plain, a, b, c);
     }
     if !unused_zero(info.words, a, b, c) {
@@ -250,7 +284,7 @@ fn first_fault(table: &[u32], text: &[u8], plain: bool) -> Fault
             n += 1;
             continue;
         }
-        if 11 <= k {
+        if KIND_COUNT <= k {
             return Fault { answer: 2, place };
         }
         let info = kinds[k as usize];

@@ -4,7 +4,7 @@ use mathlib.Core.Path.{_≡_}
 use mathlib.Core.List.{List, [], _∷_}
 use lib.ListN.{length, take, drop}
 use lib.Dec.{eqb}
-use Rattle.utf8.specs.Pick.{pick}
+use Rattle.choice.specs.Pick.{pick}
 use Rattle.pallets.specs.Lines.{indexOf, bodyEnd, lines}
 use Rattle.pallets.specs.Pallets.{between, parsed}
 use Rattle.tolerance.specs.Tolerance.{labelOf}

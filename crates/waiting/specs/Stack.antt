@@ -5,7 +5,7 @@ use mathlib.Core.Bool.{Bool, true, false}
 use mathlib.Core.List.{List, [], _∷_}
 use lib.ListN.{getD}
 use lib.Dec.{eqb}
-use Rattle.utf8.specs.Pick.{pick}
+use Rattle.choice.specs.Pick.{pick}
 use Rattle.rules.specs.Layout.{Mode, flat, broken}
 use Rattle.machine.specs.Waiting.{Saved, Entry, node, trial, mark}
 use Rattle.machine.specs.Fit.{Item, item}

@@ -15,7 +15,7 @@ use lib.ListN.{length, getD, take, drop, length-drop}
 use lib.Seq.{take-all, take-suc, drop-drop, length-take-le}
 use lib.Dec.{eqb, ltb}
 use borrow.Author.Tests.{eq-eqb, ne-eqb, le-leb, lt-leb, lt-ltb, le-ltb, ltb-true, ltb-false}
-use Rattle.utf8.specs.Pick.{pick}
+use Rattle.choice.specs.Pick.{pick}
 use Rattle.pallets.specs.Lines.{goesOn}
 use Rattle.pallets.proofs.Reading.{more, done}
 use Rattle.words.specs.Words.{blanks, skipped, trimmed, ends, togetherOn, together, wordsOn}

@@ -3,7 +3,7 @@
 ghost use mathlib.Core.Path.{_≡_};
 ghost use Prim.Native.Nat.{_<_, _≤_};
 ghost use lib.ListN.{length};
-ghost use Rattle.utf8.specs.Pick.{pick};
+ghost use Rattle.choice.specs.Pick.{pick};
 ghost use lib.Dec.{eqb};
 ghost use Rattle.table.specs.Document.{Doc};
 ghost use Rattle.build.specs.Documents.{appendDoc};

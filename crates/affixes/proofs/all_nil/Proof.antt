@@ -36,14 +36,24 @@ loop-less c = search needs
 
 loop-again : tie.Need-loop-again Inv-loop μ-loop
 unfolding counted
-loop-again c = (omega arith, c .before .before .before .before .loop .inv .1 ∙ nil-next (counted (c .before .before .before .before .before .before .before .before .args .c) (c .before .before .before .before .before .before .before .before .args .table .now) (c .before .before .before .before .before .before .before .before .args .text .now)) (c .before .before .before .before .before .before .before .before .args .nodes .now) (c .before .before .before .before .loop .i) (c .before .before .before .loop-test .taken) (sym (c .before .is-nil .ensures) ∙ c .if1 .taken))
+loop-again c =
+    let at3 = c .before .before .before in
+    let at4 = at3 .before in
+    let start = at4 .before .before .before .before in
+    (omega arith, at4 .loop .inv .1 ∙ nil-next (counted (start .args .c) (start .args .table .now) (start .args .text .now)) (start .args .nodes .now) (at4 .loop .i) (at3 .loop-test .taken) (sym (c .before .is-nil .ensures) ∙ c .if1 .taken))
 
 returns : tie.Need-returns Inv-loop μ-loop
 unfolding counted
-returns c = sym (c .before .before .before .before .loop .inv .1 ∙ nil-not (counted (c .before .before .before .before .before .before .before .before .args .c) (c .before .before .before .before .before .before .before .before .args .table .now) (c .before .before .before .before .before .before .before .before .args .text .now)) (c .before .before .before .before .before .before .before .before .args .nodes .now) (c .before .before .before .before .loop .i) (c .before .before .before .loop-test .taken) (sym (c .before .is-nil .ensures) ∙ c .if1 .left))
+returns c =
+    let at3 = c .before .before .before in
+    let at4 = at3 .before in
+    let start = at4 .before .before .before .before in
+    sym (at4 .loop .inv .1 ∙ nil-not (counted (start .args .c) (start .args .table .now) (start .args .text .now)) (start .args .nodes .now) (at4 .loop .i) (at3 .loop-test .taken) (sym (c .before .is-nil .ensures) ∙ c .if1 .left))
 
 returns-2 : tie.Need-returns-2 Inv-loop μ-loop
-returns-2 c = sym (c .before .loop .inv .1 ∙ nil-end (counted (c .before .before .before .before .before .args .c) (c .before .before .before .before .before .args .table .now) (c .before .before .before .before .before .args .text .now)) (c .before .before .before .before .before .args .nodes .now) (c .before .loop .i) (c .loop-test .left))
+returns-2 c =
+    let start = c .before .before .before .before .before in
+    sym (c .before .loop .inv .1 ∙ nil-end (counted (start .args .c) (start .args .table .now) (start .args .text .now)) (start .args .nodes .now) (c .before .loop .i) (c .loop-test .left))
 
 pub all-nil-spec : {M : Type 1} → statement M
 all-nil-spec =

@@ -13,7 +13,13 @@ same-length c = search needs
 
 returns : tie.Need-returns
 unfolding guarded
-returns c = rw (c .before .before .before .before .if1 .taken) (ran-append (c .before .before .before .before .before .before .before .before .pre .0) (c .before .before .before .before .before .before .before .before .args .n .0) (c .before .before .before .before .before .before .before .before .args .shared .guard .0) (c .before .before .before .before .before .before .before .before .pre .2) (c .before .before .before .before .before .before .before .before .pre .1 .guard) (c .before .before .append .ensures))
+returns c =
+    let at2 = c .before .before in
+    let at4 = at2 .before .before in
+    let start = at4 .before .before .before .before in
+    rw
+    (at4 .if1 .taken)
+    (ran-append (start .pre .0) (start .args .n .0) (start .args .shared .guard .0) (start .pre .2) (start .pre .1 .guard) (at2 .append .ensures))
 
 returns-2 : tie.Need-returns-2
 unfolding guarded

@@ -10,7 +10,11 @@ use Rattle.affixes.proofs.list.Statement.{statement}
 use Rattle.affixes.proofs.list.Tie as tie
 
 returns : tie.Need-returns
-returns c = rw (list-none (counted (c .before .before .before .before .args .c) (c .before .before .before .before .args .table .now) (c .before .before .before .before .args .text .now)) (c .before .before .before .before .args .none .0) (c .before .before .before .before .args .nodes .now) (c .if1 .taken)) (ran-older (c .before .before .before .before .pre .0) (c .before .before .before .before .args .none))
+returns c =
+    let start = c .before .before .before .before in
+    rw
+    (list-none (counted (start .args .c) (start .args .table .now) (start .args .text .now)) (start .args .none .0) (start .args .nodes .now) (c .if1 .taken))
+    (ran-older (start .pre .0) (start .args .none))
 
 concat-requires : tie.Need-concat-requires
 concat-requires c κs = search needs
@@ -19,7 +23,17 @@ same-length : tie.Need-same-length
 same-length c = search needs
 
 returns-2 : tie.Need-returns-2
-returns-2 c = rw (list-some (counted (c .before .before .before .before .before .before .before .before .args .c) (c .before .before .before .before .before .before .before .before .args .table .now) (c .before .before .before .before .before .before .before .before .args .text .now)) (c .before .before .before .before .before .before .before .before .args .none .0) (c .before .before .before .before .before .before .before .before .args .nodes .now) (c .before .before .before .before .if1 .left)) (ran-made (c .before .before .before .before .before .before .before .before .pre .0) (λ s. concat s (c .before .before .before .before .before .before .before .before .args .nodes .now)) (concat-adds (counted (c .before .before .before .before .before .before .before .before .args .c) (c .before .before .before .before .before .before .before .before .args .table .now) (c .before .before .before .before .before .before .before .before .args .text .now)) (c .before .before .before .before .before .before .before .before .args .nodes .now) (start-list (c .before .before .before .before .before .before .before .before .pre .0) (c .before .before .before .before .before .before .before .before .args .nodes .now) (c .before .before .before .before .before .before .before .before .pre .2))) (c .before .before .before .before .before .before .before .before .pre .2) refl (c .before .before .concat .ensures))
+returns-2 c =
+    let at2 = c .before .before in
+    let at4 = at2 .before .before in
+    let start = at4 .before .before .before .before in
+    let text-2 = start .args .text .now in
+    let table-2 = start .args .table .now in
+    let nodes-2 = start .args .nodes .now in
+    let the-counted = counted (start .args .c) table-2 text-2 in
+    rw
+    (list-some the-counted (start .args .none .0) nodes-2 (at4 .if1 .left))
+    (ran-made (start .pre .0) (λ s. concat s nodes-2) (concat-adds the-counted nodes-2 (start-list (start .pre .0) nodes-2 (start .pre .2))) (start .pre .2) refl (at2 .concat .ensures))
 
 pub list-spec : {M : Type 1} → statement M
 list-spec = tie.close (tie.spec returns concat-requires same-length returns-2)

@@ -19,7 +19,10 @@ same-length : tie.Need-same-length
 same-length c = search needs
 
 returns : tie.Need-returns
-returns c = start-stop₁ (c .before .before .before .before .before .before .before .before .before .before .before .pre .0) (c .before .before .before .before .before .before .before .before .before .before .before .pre .1) (c .before .before .before .before .nil .ensures) (c .enum-told .given .1)
+returns c =
+    let at4 = c .before .before .before .before in
+    let start = at4 .before .before .before .before .before .before .before in
+    start-stop₁ (start .pre .0) (start .pre .1) (at4 .nil .ensures) (c .enum-told .given .1)
 
 fail-requires : tie.Need-fail-requires
 fail-requires c κs = search needs
@@ -34,7 +37,12 @@ same-length-2 : tie.Need-same-length-2
 same-length-2 c = search needs
 
 returns-2 : tie.Need-returns-2
-returns-2 c = start-stop₂ (c .before .before .before .before .before .before .before .before .before .before .before .before .before .before .before .before .before .before .pre .0) (c .before .before .before .before .before .before .before .before .before .before .before .before .before .before .before .before .before .before .pre .1) (c .before .before .before .before .before .before .before .before .before .before .before .nil .ensures) (c .before .before .before .before .before .before .before .first .given .1) (c .before .before .before .before .fail .ensures) (c .enum-told2 .given .1)
+returns-2 c =
+    let at4 = c .before .before .before .before in
+    let at7 = at4 .before .before .before in
+    let at11 = at7 .before .before .before .before in
+    let start = at11 .before .before .before .before .before .before .before in
+    start-stop₂ (start .pre .0) (start .pre .1) (at11 .nil .ensures) (at7 .first .given .1) (at4 .fail .ensures) (c .enum-told2 .given .1)
 
 flat-alt-requires : tie.Need-flat-alt-requires
 flat-alt-requires c κs = search needs
@@ -49,10 +57,41 @@ same-length-3 : tie.Need-same-length-3
 same-length-3 c = search needs
 
 returns-3 : tie.Need-returns-3
-returns-3 c = start-stop₃ (c .before .before .before .before .before .before .before .before .before .before .before .before .before .before .before .before .before .before .before .before .before .before .before .before .before .pre .0) (c .before .before .before .before .before .before .before .before .before .before .before .before .before .before .before .before .before .before .before .before .before .before .before .before .before .pre .1) (c .before .before .before .before .before .before .before .before .before .before .before .before .before .before .before .before .before .before .nil .ensures) (c .before .before .before .before .before .before .before .before .before .before .before .before .before .before .first .given .1) (c .before .before .before .before .before .before .before .before .before .before .before .fail .ensures) (c .before .before .before .before .before .before .before .second .given .1) (c .before .before .before .before .flat-alt .ensures) (c .enum-told3 .given .1)
+returns-3 c =
+    let at4 = c .before .before .before .before in
+    let at7 = at4 .before .before .before in
+    let at11 = at7 .before .before .before .before in
+    let at14 = at11 .before .before .before in
+    let at18 = at14 .before .before .before .before in
+    let start = at18 .before .before .before .before .before .before .before in
+    start-stop₃
+    (start .pre .0)
+    (start .pre .1)
+    (at18 .nil .ensures)
+    (at14 .first .given .1)
+    (at11 .fail .ensures)
+    (at7 .second .given .1)
+    (at4 .flat-alt .ensures)
+    (c .enum-told3 .given .1)
 
 alternative-requires : tie.Need-alternative-requires
-alternative-requires c κs = start-asks₄ (c .before .before .before .before .before .before .before .before .before .before .before .before .before .before .before .before .before .before .before .before .before .before .before .before .before .before .before .pre .0) (c .before .before .before .before .before .before .before .before .before .before .before .before .before .before .before .before .before .before .before .before .before .before .before .before .before .before .before .pre .1) (c .before .before .before .before .before .before .before .before .before .before .before .before .before .before .before .before .before .before .before .before .nil .ensures) (c .before .before .before .before .before .before .before .before .before .before .before .before .before .before .before .before .first .given .1) (c .before .before .before .before .before .before .before .before .before .before .before .before .before .fail .ensures) (c .before .before .before .before .before .before .before .before .before .second .given .1) (c .before .before .before .before .before .before .flat-alt .ensures) (c .before .before .third .given .1)
+alternative-requires c κs =
+    let at2 = c .before .before in
+    let at6 = at2 .before .before .before .before in
+    let at9 = at6 .before .before .before in
+    let at13 = at9 .before .before .before .before in
+    let at16 = at13 .before .before .before in
+    let at20 = at16 .before .before .before .before in
+    let start = at20 .before .before .before .before .before .before .before in
+    start-asks₄
+    (start .pre .0)
+    (start .pre .1)
+    (at20 .nil .ensures)
+    (at16 .first .given .1)
+    (at13 .fail .ensures)
+    (at9 .second .given .1)
+    (at6 .flat-alt .ensures)
+    (at2 .third .given .1)
 
 enum-known-fourth : tie.Need-enum-known-fourth
 enum-known-fourth c = search needs
@@ -61,22 +100,97 @@ enum-told-4 : tie.Need-enum-told-4
 enum-told-4 c = search needs
 
 same-length-4 : tie.Need-same-length-4
-same-length-4 c = c .before .before .before .before .alternative .kept .1 .0 ∙ c .before .before .before .before .before .before .before .before .before .before .before .flat-alt .kept .1 .0 ∙ c .before .before .before .before .before .before .before .before .before .before .before .before .before .before .before .before .before .before .fail .kept .1 .0 ∙ c .before .before .before .before .before .before .before .before .before .before .before .before .before .before .before .before .before .before .before .before .before .before .before .before .before .nil .kept .1 .0
+same-length-4 c =
+    let at4 = c .before .before .before .before in
+    let at11 = at4 .before .before .before .before .before .before .before in
+    let at18 = at11 .before .before .before .before .before .before .before in
+    let at25 = at18 .before .before .before .before .before .before .before in
+    at4 .alternative .kept .1 .0 ∙ at11 .flat-alt .kept .1 .0 ∙ at18 .fail .kept .1 .0 ∙ at25 .nil .kept .1 .0
 
 returns-4 : tie.Need-returns-4
-returns-4 c = start-stop₄ (c .before .before .before .before .before .before .before .before .before .before .before .before .before .before .before .before .before .before .before .before .before .before .before .before .before .before .before .before .before .before .before .before .pre .0) (c .before .before .before .before .before .before .before .before .before .before .before .before .before .before .before .before .before .before .before .before .before .before .before .before .before .before .before .before .before .before .before .before .pre .1) (c .before .before .before .before .before .before .before .before .before .before .before .before .before .before .before .before .before .before .before .before .before .before .before .before .before .nil .ensures) (c .before .before .before .before .before .before .before .before .before .before .before .before .before .before .before .before .before .before .before .before .before .first .given .1) (c .before .before .before .before .before .before .before .before .before .before .before .before .before .before .before .before .before .before .fail .ensures) (c .before .before .before .before .before .before .before .before .before .before .before .before .before .before .second .given .1) (c .before .before .before .before .before .before .before .before .before .before .before .flat-alt .ensures) (c .before .before .before .before .before .before .before .third .given .1) (c .before .before .before .before .alternative .ensures) (c .enum-told4 .given .1)
+returns-4 c =
+    let at4 = c .before .before .before .before in
+    let at7 = at4 .before .before .before in
+    let at11 = at7 .before .before .before .before in
+    let at14 = at11 .before .before .before in
+    let at18 = at14 .before .before .before .before in
+    let at21 = at18 .before .before .before in
+    let at25 = at21 .before .before .before .before in
+    let start = at25 .before .before .before .before .before .before .before in
+    start-stop₄
+    (start .pre .0)
+    (start .pre .1)
+    (at25 .nil .ensures)
+    (at21 .first .given .1)
+    (at18 .fail .ensures)
+    (at14 .second .given .1)
+    (at11 .flat-alt .ensures)
+    (at7 .third .given .1)
+    (at4 .alternative .ensures)
+    (c .enum-told4 .given .1)
 
 sub-unions : tie.Need-sub-unions
-sub-unions c = let h = c .before .before .before .before .before .before .before .before .before .before .before .before .before .before .before .before .before .before .before .before .before .before .before .before .before .before .before .before .before .before .before .before .before .before .pre .1 .some in omega arith
+sub-unions c =
+    let start = c .before .before .before .before .before .before .before .before .before .before .before .before .before .before .before .before .before .before .before .before .before .before .before .before .before .before .before .before .before .before .before .before .before .before in
+    let h = start .pre .1 .some in
+    omega arith
 
 unions-requires : tie.Need-unions-requires
-unions-requires c κs = start-asks₅ (c .before .before .before .before .before .before .before .before .before .before .before .before .before .before .before .before .before .before .before .before .before .before .before .before .before .before .before .before .before .before .before .before .before .before .pre .0) (c .before .before .before .before .before .before .before .before .before .before .before .before .before .before .before .before .before .before .before .before .before .before .before .before .before .before .before .before .before .before .before .before .before .before .pre .1) (c .before .before .before .before .before .before .before .before .before .before .before .before .before .before .before .before .before .before .before .before .before .before .before .before .before .before .before .nil .ensures) (c .before .before .before .before .before .before .before .before .before .before .before .before .before .before .before .before .before .before .before .before .before .before .before .first .given .1) (c .before .before .before .before .before .before .before .before .before .before .before .before .before .before .before .before .before .before .before .before .fail .ensures) (c .before .before .before .before .before .before .before .before .before .before .before .before .before .before .before .before .second .given .1) (c .before .before .before .before .before .before .before .before .before .before .before .before .before .flat-alt .ensures) (c .before .before .before .before .before .before .before .before .before .third .given .1) (c .before .before .before .before .before .before .alternative .ensures) (c .before .before .fourth .given .1)
+unions-requires c κs =
+    let at2 = c .before .before in
+    let at6 = at2 .before .before .before .before in
+    let at9 = at6 .before .before .before in
+    let at13 = at9 .before .before .before .before in
+    let at16 = at13 .before .before .before in
+    let at20 = at16 .before .before .before .before in
+    let at23 = at20 .before .before .before in
+    let at27 = at23 .before .before .before .before in
+    let start = at27 .before .before .before .before .before .before .before in
+    start-asks₅
+    (start .pre .0)
+    (start .pre .1)
+    (at27 .nil .ensures)
+    (at23 .first .given .1)
+    (at20 .fail .ensures)
+    (at16 .second .given .1)
+    (at13 .flat-alt .ensures)
+    (at9 .third .given .1)
+    (at6 .alternative .ensures)
+    (at2 .fourth .given .1)
 
 same-length-5 : tie.Need-same-length-5
-same-length-5 c = c .before .before .unions .kept .1 .0 ∙ c .before .before .before .before .before .before .before .before .before .alternative .kept .1 .0 ∙ c .before .before .before .before .before .before .before .before .before .before .before .before .before .before .before .before .flat-alt .kept .1 .0 ∙ c .before .before .before .before .before .before .before .before .before .before .before .before .before .before .before .before .before .before .before .before .before .before .before .fail .kept .1 .0 ∙ c .before .before .before .before .before .before .before .before .before .before .before .before .before .before .before .before .before .before .before .before .before .before .before .before .before .before .before .before .before .before .nil .kept .1 .0
+same-length-5 c =
+    let at2 = c .before .before in
+    let at9 = at2 .before .before .before .before .before .before .before in
+    let at16 = at9 .before .before .before .before .before .before .before in
+    let at23 = at16 .before .before .before .before .before .before .before in
+    let at30 = at23 .before .before .before .before .before .before .before in
+    at2 .unions .kept .1 .0 ∙ at9 .alternative .kept .1 .0 ∙ at16 .flat-alt .kept .1 .0 ∙ at23 .fail .kept .1 .0 ∙ at30 .nil .kept .1 .0
 
 returns-5 : tie.Need-returns-5
-returns-5 c = start-last (c .before .before .before .before .before .before .before .before .before .before .before .before .before .before .before .before .before .before .before .before .before .before .before .before .before .before .before .before .before .before .before .before .before .before .before .before .before .pre .0) (c .before .before .before .before .before .before .before .before .before .before .before .before .before .before .before .before .before .before .before .before .before .before .before .before .before .before .before .before .before .before .before .before .before .before .before .before .before .pre .1) (c .before .before .before .before .before .before .before .before .before .before .before .before .before .before .before .before .before .before .before .before .before .before .before .before .before .before .before .before .before .before .nil .ensures) (c .before .before .before .before .before .before .before .before .before .before .before .before .before .before .before .before .before .before .before .before .before .before .before .before .before .before .first .given .1) (c .before .before .before .before .before .before .before .before .before .before .before .before .before .before .before .before .before .before .before .before .before .before .before .fail .ensures) (c .before .before .before .before .before .before .before .before .before .before .before .before .before .before .before .before .before .before .before .second .given .1) (c .before .before .before .before .before .before .before .before .before .before .before .before .before .before .before .before .flat-alt .ensures) (c .before .before .before .before .before .before .before .before .before .before .before .before .third .given .1) (c .before .before .before .before .before .before .before .before .before .alternative .ensures) (c .before .before .before .before .before .fourth .given .1) (c .before .before .unions .ensures)
+returns-5 c =
+    let at2 = c .before .before in
+    let at5 = at2 .before .before .before in
+    let at9 = at5 .before .before .before .before in
+    let at12 = at9 .before .before .before in
+    let at16 = at12 .before .before .before .before in
+    let at19 = at16 .before .before .before in
+    let at23 = at19 .before .before .before .before in
+    let at26 = at23 .before .before .before in
+    let at30 = at26 .before .before .before .before in
+    let start = at30 .before .before .before .before .before .before .before in
+    start-last
+    (start .pre .0)
+    (start .pre .1)
+    (at30 .nil .ensures)
+    (at26 .first .given .1)
+    (at23 .fail .ensures)
+    (at19 .second .given .1)
+    (at16 .flat-alt .ensures)
+    (at12 .third .given .1)
+    (at9 .alternative .ensures)
+    (at5 .fourth .given .1)
+    (at2 .unions .ensures)
 
 pub layouts-spec : {M : Type 1} → statement M
 layouts-spec =

@@ -14,7 +14,11 @@ has-all-requires-2 : tie.Need-has-all-requires-2
 has-all-requires-2 c κs = search needs
 
 returns : tie.Need-returns
-returns c = rw (← (c .before .before .before .before .has .ensures), c .before .before .before .if1 .taken, ← (c .before .before .has-all .ensures), c .before .if2 .taken) (c .has-all2 .ensures)
+returns c =
+    let at2 = c .before .before in
+    let at3 = at2 .before in
+    let at4 = at3 .before in
+    rw (← (at4 .has .ensures), at3 .if1 .taken, ← (at2 .has-all .ensures), c .before .if2 .taken) (c .has-all2 .ensures)
 
 returns-2 : tie.Need-returns-2
 returns-2 c = rw (← (c .before .before .before .has .ensures), c .before .before .if1 .taken, ← (c .before .has-all .ensures), c .if2 .left) refl

@@ -21,22 +21,50 @@ enum-known-asked : tie.Need-enum-known-asked
 enum-known-asked c = search needs
 
 returns : tie.Need-returns
-returns c = within-refused (c .before .before .before .before .before .before .before .before .before .before .before .before .before .before .args .c) (c .before .before .before .before .before .before .before .before .before .before .before .before .before .before .args .table .now) (c .before .before .before .before .before .before .before .before .before .before .before .before .before .before .args .text .now) (c .before .before .before .before .before .before .before .before .before .before .before .before .before .before .args .block) (c .before .before .before .before .before .before .before .before .before .before .before .before .before .before .args .prefixes .now) (c .before .before .before .before .before .before .before .before .before .before .before .before .before .before .args .suffixes .now) (c .before .before .before .before .before .before .before .before .before .before .before .before .before .before .args .nests .now) _ (sym (rw (c .before .before .before .before .before .before .operands .ensures, c .before .before .before .before .before .nest-right .ensures, c .before .before .before .before .least .ensures) at (c .before .before .before .ask .ensures)) ∙ c .before .asked .given .1)
+returns c =
+    let at3 = c .before .before .before in
+    let at4 = at3 .before in
+    let at5 = at4 .before in
+    let at6 = at5 .before in
+    let start = at6 .before .before .before .before .before .before .before .before in
+    within-refused (start .args .c) (start .args .table .now) (start .args .text .now) (start .args .block) (start .args .prefixes .now) (start .args .suffixes .now) (start .args .nests .now) _ (sym (rw (at6 .operands .ensures, at5 .nest-right .ensures, at4 .least .ensures) at (at3 .ask .ensures)) ∙ c .before .asked .given .1)
 
 enum-told : tie.Need-enum-told
 enum-told c = search needs
 
 returns-2 : tie.Need-returns-2
-returns-2 c = within-body (c .before .before .before .before .before .before .before .before .before .before .before .before .before .before .args .c) (c .before .before .before .before .before .before .before .before .before .before .before .before .before .before .args .table .now) (c .before .before .before .before .before .before .before .before .before .before .before .before .before .before .args .text .now) (c .before .before .before .before .before .before .before .before .before .before .before .before .before .before .args .block) (c .before .before .before .before .before .before .before .before .before .before .before .before .before .before .args .prefixes .now) (c .before .before .before .before .before .before .before .before .before .before .before .before .before .before .args .suffixes .now) (c .before .before .before .before .before .before .before .before .before .before .before .before .before .before .args .nests .now) (sym (rw (c .before .before .before .before .before .before .operands .ensures, c .before .before .before .before .before .nest-right .ensures, c .before .before .before .before .least .ensures) at (c .before .before .before .ask .ensures)) ∙ c .before .enum-told .given .1) (c .if1 .taken)
+returns-2 c =
+    let at3 = c .before .before .before in
+    let at4 = at3 .before in
+    let at5 = at4 .before in
+    let at6 = at5 .before in
+    let start = at6 .before .before .before .before .before .before .before .before in
+    within-body (start .args .c) (start .args .table .now) (start .args .text .now) (start .args .block) (start .args .prefixes .now) (start .args .suffixes .now) (start .args .nests .now) (sym (rw (at6 .operands .ensures, at5 .nest-right .ensures, at4 .least .ensures) at (at3 .ask .ensures)) ∙ c .before .enum-told .given .1) (c .if1 .taken)
 
 placed-requires : tie.Need-placed-requires
-placed-requires c κs = within-asks (c .before .before .before .before .before .before .before .before .before .before .before .before .before .before .before .args .c) (c .before .before .before .before .before .before .before .before .before .before .before .before .before .before .before .args .table .now) (c .before .before .before .before .before .before .before .before .before .before .before .before .before .before .before .args .text .now) (c .before .before .before .before .before .before .before .before .before .before .before .before .before .before .before .args .block) (c .before .before .before .before .before .before .before .before .before .before .before .before .before .before .before .args .prefixes .now) (c .before .before .before .before .before .before .before .before .before .before .before .before .before .before .before .args .suffixes .now) (c .before .before .before .before .before .before .before .before .before .before .before .before .before .before .before .args .nests .now) (sym (rw (c .before .before .before .before .before .before .before .operands .ensures, c .before .before .before .before .before .before .nest-right .ensures, c .before .before .before .before .before .least .ensures) at (c .before .before .before .before .ask .ensures)) ∙ c .before .before .enum-told .given .1) (c .before .if1 .left) (c .before .before .before .before .before .before .before .before .before .before .before .before .before .before .before .pre)
+placed-requires c κs =
+    let at2 = c .before .before in
+    let at4 = at2 .before .before in
+    let at5 = at4 .before in
+    let at6 = at5 .before in
+    let at7 = at6 .before in
+    let start = at7 .before .before .before .before .before .before .before .before in
+    within-asks (start .args .c) (start .args .table .now) (start .args .text .now) (start .args .block) (start .args .prefixes .now) (start .args .suffixes .now) (start .args .nests .now) (sym (rw (at7 .operands .ensures, at6 .nest-right .ensures, at5 .least .ensures) at (at4 .ask .ensures)) ∙ at2 .enum-told .given .1) (c .before .if1 .left) (start .pre)
 
 same-length : tie.Need-same-length
 same-length c = search needs
 
 returns-3 : tie.Need-returns-3
-returns-3 c = within-last (c .before .before .before .before .before .before .before .before .before .before .before .before .before .before .before .before .before .before .args .c) (c .before .before .before .before .before .before .before .before .before .before .before .before .before .before .before .before .before .before .args .table .now) (c .before .before .before .before .before .before .before .before .before .before .before .before .before .before .before .before .before .before .args .text .now) (c .before .before .before .before .before .before .before .before .before .before .before .before .before .before .before .before .before .before .args .block) (c .before .before .before .before .before .before .before .before .before .before .before .before .before .before .before .before .before .before .args .prefixes .now) (c .before .before .before .before .before .before .before .before .before .before .before .before .before .before .before .before .before .before .args .suffixes .now) (c .before .before .before .before .before .before .before .before .before .before .before .before .before .before .before .before .before .before .args .nests .now) (sym (rw (c .before .before .before .before .before .before .before .before .before .before .operands .ensures, c .before .before .before .before .before .before .before .before .before .nest-right .ensures, c .before .before .before .before .before .before .before .before .least .ensures) at (c .before .before .before .before .before .before .before .ask .ensures)) ∙ c .before .before .before .before .before .enum-told .given .1) (c .before .before .before .before .if1 .left) (c .before .before .placed .ensures)
+returns-3 c =
+    let at2 = c .before .before in
+    let at4 = at2 .before .before in
+    let at5 = at4 .before in
+    let at7 = at5 .before .before in
+    let at8 = at7 .before in
+    let at9 = at8 .before in
+    let at10 = at9 .before in
+    let start = at10 .before .before .before .before .before .before .before .before in
+    within-last (start .args .c) (start .args .table .now) (start .args .text .now) (start .args .block) (start .args .prefixes .now) (start .args .suffixes .now) (start .args .nests .now) (sym (rw (at10 .operands .ensures, at9 .nest-right .ensures, at8 .least .ensures) at (at7 .ask .ensures)) ∙ at5 .enum-told .given .1) (at4 .if1 .left) (at2 .placed .ensures)
 
 pub within-spec : {M : Type 1} → statement M
 within-spec =

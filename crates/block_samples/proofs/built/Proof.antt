@@ -59,7 +59,11 @@ enum-told-3 : tie.Need-enum-told-3
 enum-told-3 c = search needs
 
 same-length-5 : tie.Need-same-length-5
-same-length-5 c = c .before .before .before .before .before .before .after-line2 .kept .1 .0 ∙ c .before .before .before .before .before .before .before .before .before .before .before .before .before .before .before .before .before .after-line .kept .1 .0 ∙ c .before .before .before .before .before .before .before .before .before .before .before .before .before .before .before .before .before .before .before .before .before .before .before .before .before .before .before .before .text .kept .1 .0
+same-length-5 c =
+    let at6 = c .before .before .before .before .before .before in
+    let at17 = at6 .before .before .before .before .before .before .before .before .before .before .before in
+    let at28 = at17 .before .before .before .before .before .before .before .before .before .before .before in
+    at6 .after-line2 .kept .1 .0 ∙ at17 .after-line .kept .1 .0 ∙ at28 .text .kept .1 .0
 
 same-length-6 : tie.Need-same-length-6
 same-length-6 c = search needs
@@ -80,10 +84,20 @@ enum-told-4 : tie.Need-enum-told-4
 enum-told-4 c = search needs
 
 same-length-7 : tie.Need-same-length-7
-same-length-7 c = c .before .before .before .before .before .before .after-line3 .kept .1 .0 ∙ c .before .before .before .before .before .before .before .before .before .before .before .before .before .before .before .before .before .after-line2 .kept .1 .0 ∙ c .before .before .before .before .before .before .before .before .before .before .before .before .before .before .before .before .before .before .before .before .before .before .before .before .before .before .before .before .after-line .kept .1 .0 ∙ c .before .before .before .before .before .before .before .before .before .before .before .before .before .before .before .before .before .before .before .before .before .before .before .before .before .before .before .before .before .before .before .before .before .before .before .before .before .before .before .text .kept .1 .0
+same-length-7 c =
+    let at6 = c .before .before .before .before .before .before in
+    let at17 = at6 .before .before .before .before .before .before .before .before .before .before .before in
+    let at28 = at17 .before .before .before .before .before .before .before .before .before .before .before in
+    let at39 = at28 .before .before .before .before .before .before .before .before .before .before .before in
+    at6 .after-line3 .kept .1 .0 ∙ at17 .after-line2 .kept .1 .0 ∙ at28 .after-line .kept .1 .0 ∙ at39 .text .kept .1 .0
 
 same-length-8 : tie.Need-same-length-8
-same-length-8 c = c .before .before .before .before .before .before .after-line3 .kept .1 .1 .0 ∙ c .before .before .before .before .before .before .before .before .before .before .before .before .before .before .before .before .before .after-line2 .kept .1 .1 .0 ∙ c .before .before .before .before .before .before .before .before .before .before .before .before .before .before .before .before .before .before .before .before .before .before .before .before .before .before .before .before .after-line .kept .1 .1 .0 ∙ c .before .before .before .before .before .before .before .before .before .before .before .before .before .before .before .before .before .before .before .before .before .before .before .before .before .before .before .before .before .before .before .before .before .before .before .before .before .before .before .text .kept .1 .1 .0
+same-length-8 c =
+    let at6 = c .before .before .before .before .before .before in
+    let at17 = at6 .before .before .before .before .before .before .before .before .before .before .before in
+    let at28 = at17 .before .before .before .before .before .before .before .before .before .before .before in
+    let at39 = at28 .before .before .before .before .before .before .before .before .before .before .before in
+    at6 .after-line3 .kept .1 .1 .0 ∙ at17 .after-line2 .kept .1 .1 .0 ∙ at28 .after-line .kept .1 .1 .0 ∙ at39 .text .kept .1 .1 .0
 
 returns-4 : tie.Need-returns-4
 returns-4 c = search needs
@@ -101,10 +115,22 @@ enum-told-5 : tie.Need-enum-told-5
 enum-told-5 c = search needs
 
 same-length-9 : tie.Need-same-length-9
-same-length-9 c = c .before .before .before .before .before .before .after-line4 .kept .1 .0 ∙ c .before .before .before .before .before .before .before .before .before .before .before .before .before .before .before .before .before .after-line3 .kept .1 .0 ∙ c .before .before .before .before .before .before .before .before .before .before .before .before .before .before .before .before .before .before .before .before .before .before .before .before .before .before .before .before .after-line2 .kept .1 .0 ∙ c .before .before .before .before .before .before .before .before .before .before .before .before .before .before .before .before .before .before .before .before .before .before .before .before .before .before .before .before .before .before .before .before .before .before .before .before .before .before .before .after-line .kept .1 .0 ∙ c .before .before .before .before .before .before .before .before .before .before .before .before .before .before .before .before .before .before .before .before .before .before .before .before .before .before .before .before .before .before .before .before .before .before .before .before .before .before .before .before .before .before .before .before .before .before .before .before .before .before .text .kept .1 .0
+same-length-9 c =
+    let at6 = c .before .before .before .before .before .before in
+    let at17 = at6 .before .before .before .before .before .before .before .before .before .before .before in
+    let at28 = at17 .before .before .before .before .before .before .before .before .before .before .before in
+    let at39 = at28 .before .before .before .before .before .before .before .before .before .before .before in
+    let at50 = at39 .before .before .before .before .before .before .before .before .before .before .before in
+    at6 .after-line4 .kept .1 .0 ∙ at17 .after-line3 .kept .1 .0 ∙ at28 .after-line2 .kept .1 .0 ∙ at39 .after-line .kept .1 .0 ∙ at50 .text .kept .1 .0
 
 same-length-10 : tie.Need-same-length-10
-same-length-10 c = c .before .before .before .before .before .before .after-line4 .kept .1 .1 .0 ∙ c .before .before .before .before .before .before .before .before .before .before .before .before .before .before .before .before .before .after-line3 .kept .1 .1 .0 ∙ c .before .before .before .before .before .before .before .before .before .before .before .before .before .before .before .before .before .before .before .before .before .before .before .before .before .before .before .before .after-line2 .kept .1 .1 .0 ∙ c .before .before .before .before .before .before .before .before .before .before .before .before .before .before .before .before .before .before .before .before .before .before .before .before .before .before .before .before .before .before .before .before .before .before .before .before .before .before .before .after-line .kept .1 .1 .0 ∙ c .before .before .before .before .before .before .before .before .before .before .before .before .before .before .before .before .before .before .before .before .before .before .before .before .before .before .before .before .before .before .before .before .before .before .before .before .before .before .before .before .before .before .before .before .before .before .before .before .before .before .text .kept .1 .1 .0
+same-length-10 c =
+    let at6 = c .before .before .before .before .before .before in
+    let at17 = at6 .before .before .before .before .before .before .before .before .before .before .before in
+    let at28 = at17 .before .before .before .before .before .before .before .before .before .before .before in
+    let at39 = at28 .before .before .before .before .before .before .before .before .before .before .before in
+    let at50 = at39 .before .before .before .before .before .before .before .before .before .before .before in
+    at6 .after-line4 .kept .1 .1 .0 ∙ at17 .after-line3 .kept .1 .1 .0 ∙ at28 .after-line2 .kept .1 .1 .0 ∙ at39 .after-line .kept .1 .1 .0 ∙ at50 .text .kept .1 .1 .0
 
 returns-5 : tie.Need-returns-5
 returns-5 c = search needs
@@ -119,10 +145,23 @@ enum-told-6 : tie.Need-enum-told-6
 enum-told-6 c = search needs
 
 same-length-11 : tie.Need-same-length-11
-same-length-11 c = c .before .before .before .before .nil .kept .1 .0 ∙ c .before .before .before .before .before .before .before .before .before .before .before .before .before .before .after-line4 .kept .1 .0 ∙ c .before .before .before .before .before .before .before .before .before .before .before .before .before .before .before .before .before .before .before .before .before .before .before .before .before .after-line3 .kept .1 .0 ∙ c .before .before .before .before .before .before .before .before .before .before .before .before .before .before .before .before .before .before .before .before .before .before .before .before .before .before .before .before .before .before .before .before .before .before .before .before .after-line2 .kept .1 .0 ∙ c .before .before .before .before .before .before .before .before .before .before .before .before .before .before .before .before .before .before .before .before .before .before .before .before .before .before .before .before .before .before .before .before .before .before .before .before .before .before .before .before .before .before .before .before .before .before .before .after-line .kept .1 .0 ∙ c .before .before .before .before .before .before .before .before .before .before .before .before .before .before .before .before .before .before .before .before .before .before .before .before .before .before .before .before .before .before .before .before .before .before .before .before .before .before .before .before .before .before .before .before .before .before .before .before .before .before .before .before .before .before .before .before .before .before .text .kept .1 .0
+same-length-11 c =
+    let at4 = c .before .before .before .before in
+    let at14 = at4 .before .before .before .before .before .before .before .before .before .before in
+    let at25 = at14 .before .before .before .before .before .before .before .before .before .before .before in
+    let at36 = at25 .before .before .before .before .before .before .before .before .before .before .before in
+    let at47 = at36 .before .before .before .before .before .before .before .before .before .before .before in
+    let at58 = at47 .before .before .before .before .before .before .before .before .before .before .before in
+    at4 .nil .kept .1 .0 ∙ at14 .after-line4 .kept .1 .0 ∙ at25 .after-line3 .kept .1 .0 ∙ at36 .after-line2 .kept .1 .0 ∙ at47 .after-line .kept .1 .0 ∙ at58 .text .kept .1 .0
 
 same-length-12 : tie.Need-same-length-12
-same-length-12 c = c .before .before .before .before .before .before .before .before .before .before .before .before .before .before .after-line4 .kept .1 .1 .0 ∙ c .before .before .before .before .before .before .before .before .before .before .before .before .before .before .before .before .before .before .before .before .before .before .before .before .before .after-line3 .kept .1 .1 .0 ∙ c .before .before .before .before .before .before .before .before .before .before .before .before .before .before .before .before .before .before .before .before .before .before .before .before .before .before .before .before .before .before .before .before .before .before .before .before .after-line2 .kept .1 .1 .0 ∙ c .before .before .before .before .before .before .before .before .before .before .before .before .before .before .before .before .before .before .before .before .before .before .before .before .before .before .before .before .before .before .before .before .before .before .before .before .before .before .before .before .before .before .before .before .before .before .before .after-line .kept .1 .1 .0 ∙ c .before .before .before .before .before .before .before .before .before .before .before .before .before .before .before .before .before .before .before .before .before .before .before .before .before .before .before .before .before .before .before .before .before .before .before .before .before .before .before .before .before .before .before .before .before .before .before .before .before .before .before .before .before .before .before .before .before .before .text .kept .1 .1 .0
+same-length-12 c =
+    let at14 = c .before .before .before .before .before .before .before .before .before .before .before .before .before .before in
+    let at25 = at14 .before .before .before .before .before .before .before .before .before .before .before in
+    let at36 = at25 .before .before .before .before .before .before .before .before .before .before .before in
+    let at47 = at36 .before .before .before .before .before .before .before .before .before .before .before in
+    let at58 = at47 .before .before .before .before .before .before .before .before .before .before .before in
+    at14 .after-line4 .kept .1 .1 .0 ∙ at25 .after-line3 .kept .1 .1 .0 ∙ at36 .after-line2 .kept .1 .1 .0 ∙ at47 .after-line .kept .1 .1 .0 ∙ at58 .text .kept .1 .1 .0
 
 returns-6 : tie.Need-returns-6
 returns-6 c = search needs
@@ -140,10 +179,24 @@ format-requires : tie.Need-format-requires
 format-requires c κs = search needs
 
 same-length-13 : tie.Need-same-length-13
-same-length-13 c = c .before .before .format .kept .1 .1 .0 ∙ c .before .before .before .before .before .before .before .before .before .before .before .before .before .nil .kept .1 .0 ∙ c .before .before .before .before .before .before .before .before .before .before .before .before .before .before .before .before .before .before .before .before .before .before .before .after-line4 .kept .1 .0 ∙ c .before .before .before .before .before .before .before .before .before .before .before .before .before .before .before .before .before .before .before .before .before .before .before .before .before .before .before .before .before .before .before .before .before .before .after-line3 .kept .1 .0 ∙ c .before .before .before .before .before .before .before .before .before .before .before .before .before .before .before .before .before .before .before .before .before .before .before .before .before .before .before .before .before .before .before .before .before .before .before .before .before .before .before .before .before .before .before .before .before .after-line2 .kept .1 .0 ∙ c .before .before .before .before .before .before .before .before .before .before .before .before .before .before .before .before .before .before .before .before .before .before .before .before .before .before .before .before .before .before .before .before .before .before .before .before .before .before .before .before .before .before .before .before .before .before .before .before .before .before .before .before .before .before .before .before .after-line .kept .1 .0 ∙ c .before .before .before .before .before .before .before .before .before .before .before .before .before .before .before .before .before .before .before .before .before .before .before .before .before .before .before .before .before .before .before .before .before .before .before .before .before .before .before .before .before .before .before .before .before .before .before .before .before .before .before .before .before .before .before .before .before .before .before .before .before .before .before .before .before .before .before .text .kept .1 .0
+same-length-13 c =
+    let at2 = c .before .before in
+    let at13 = at2 .before .before .before .before .before .before .before .before .before .before .before in
+    let at23 = at13 .before .before .before .before .before .before .before .before .before .before in
+    let at34 = at23 .before .before .before .before .before .before .before .before .before .before .before in
+    let at45 = at34 .before .before .before .before .before .before .before .before .before .before .before in
+    let at56 = at45 .before .before .before .before .before .before .before .before .before .before .before in
+    let at67 = at56 .before .before .before .before .before .before .before .before .before .before .before in
+    at2 .format .kept .1 .1 .0 ∙ at13 .nil .kept .1 .0 ∙ at23 .after-line4 .kept .1 .0 ∙ at34 .after-line3 .kept .1 .0 ∙ at45 .after-line2 .kept .1 .0 ∙ at56 .after-line .kept .1 .0 ∙ at67 .text .kept .1 .0
 
 same-length-14 : tie.Need-same-length-14
-same-length-14 c = c .before .before .before .before .before .before .before .before .before .before .before .before .before .before .before .before .before .before .before .before .before .before .before .after-line4 .kept .1 .1 .0 ∙ c .before .before .before .before .before .before .before .before .before .before .before .before .before .before .before .before .before .before .before .before .before .before .before .before .before .before .before .before .before .before .before .before .before .before .after-line3 .kept .1 .1 .0 ∙ c .before .before .before .before .before .before .before .before .before .before .before .before .before .before .before .before .before .before .before .before .before .before .before .before .before .before .before .before .before .before .before .before .before .before .before .before .before .before .before .before .before .before .before .before .before .after-line2 .kept .1 .1 .0 ∙ c .before .before .before .before .before .before .before .before .before .before .before .before .before .before .before .before .before .before .before .before .before .before .before .before .before .before .before .before .before .before .before .before .before .before .before .before .before .before .before .before .before .before .before .before .before .before .before .before .before .before .before .before .before .before .before .before .after-line .kept .1 .1 .0 ∙ c .before .before .before .before .before .before .before .before .before .before .before .before .before .before .before .before .before .before .before .before .before .before .before .before .before .before .before .before .before .before .before .before .before .before .before .before .before .before .before .before .before .before .before .before .before .before .before .before .before .before .before .before .before .before .before .before .before .before .before .before .before .before .before .before .before .before .before .text .kept .1 .1 .0
+same-length-14 c =
+    let at23 = c .before .before .before .before .before .before .before .before .before .before .before .before .before .before .before .before .before .before .before .before .before .before .before in
+    let at34 = at23 .before .before .before .before .before .before .before .before .before .before .before in
+    let at45 = at34 .before .before .before .before .before .before .before .before .before .before .before in
+    let at56 = at45 .before .before .before .before .before .before .before .before .before .before .before in
+    let at67 = at56 .before .before .before .before .before .before .before .before .before .before .before in
+    at23 .after-line4 .kept .1 .1 .0 ∙ at34 .after-line3 .kept .1 .1 .0 ∙ at45 .after-line2 .kept .1 .1 .0 ∙ at56 .after-line .kept .1 .1 .0 ∙ at67 .text .kept .1 .1 .0
 
 returns-7 : tie.Need-returns-7
 returns-7 c = search needs

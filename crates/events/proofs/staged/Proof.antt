@@ -21,7 +21,11 @@ same-length-2 : tie.Need-same-length-2
 same-length-2 c = search needs
 
 returns : tie.Need-returns
-returns c = refused-called _ _ _ _ (c .before .before .before .before .before .before .before .before .if1 .taken) (c .before .before .before .before .before .before .clear-bytes .ensures) (c .before .before .clear-words .ensures)
+returns c =
+    let at2 = c .before .before in
+    let at6 = at2 .before .before .before .before in
+    let at8 = at6 .before .before in
+    refused-called _ _ _ _ (at8 .if1 .taken) (at6 .clear-bytes .ensures) (at2 .clear-words .ensures)
 
 mul-n : tie.Need-mul-n
 mul-n c = search needs

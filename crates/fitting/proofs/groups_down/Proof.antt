@@ -40,10 +40,14 @@ mul-if2 : tie.Need-mul-if2 Inv-loop μ-loop
 mul-if2 c = search needs
 
 shared-slice-read-if2 : tie.Need-shared-slice-read-if2 Inv-loop μ-loop
-shared-slice-read-if2 c = omega (arith, c .before .before .before .before .loop .inv .0 .node, c .before .before .before .before .loop .inv .0 .words, c .before .before .before .before .loop .inv .2)
+shared-slice-read-if2 c =
+    let at4 = c .before .before .before .before in
+    omega (arith, at4 .loop .inv .0 .node, at4 .loop .inv .0 .words, at4 .loop .inv .2)
 
 add-if2-2 : tie.Need-add-if2-2 Inv-loop μ-loop
-add-if2-2 c = omega (arith, child-below _ _ _ (c .before .before .before .before .loop .inv .0) (omega (arith, c .before .before .before .before .loop .inv .2)) (c .before .if1 .left))
+add-if2-2 c =
+    let at4 = c .before .before .before .before in
+    omega (arith, child-below _ _ _ (at4 .loop .inv .0) (omega (arith, at4 .loop .inv .2)) (c .before .if1 .left))
 
 returns-2 : tie.Need-returns-2 Inv-loop μ-loop
 returns-2 c = c .before .before .before .before .before .loop .inv .1
@@ -52,13 +56,20 @@ add-down : tie.Need-add-down Inv-loop μ-loop
 add-down c = search needs
 
 sub-n : tie.Need-sub-n Inv-loop μ-loop
-sub-n c = omega (arith, child-below _ _ _ (c .before .before .before .before .before .loop .inv .0) (omega (arith, c .before .before .before .before .before .loop .inv .2)) (c .before .before .if1 .left))
+sub-n c =
+    let at2 = c .before .before in
+    let at5 = at2 .before .before .before in
+    omega (arith, child-below _ _ _ (at5 .loop .inv .0) (omega (arith, at5 .loop .inv .2)) (at2 .if1 .left))
 
 loop-less : tie.Need-loop-less Inv-loop μ-loop
 loop-less c = omega (arith, c .before .before .before .before .loop-test .taken)
 
 loop-again : tie.Need-loop-again Inv-loop μ-loop
-loop-again c = (c .before .before .before .before .before .loop .inv .0, row-next _ _ _ _ _ (c .before .before .before .before .before .loop .inv .1) (c .before .before .before .before .before .loop .inv .2) (c .before .before .before .before .loop-test .taken) (c .before .before .if1 .left) (c .if2 .left), omega (arith, c .before .before .before .before .before .loop .inv .2))
+loop-again c =
+    let at2 = c .before .before in
+    let at4 = at2 .before .before in
+    let at5 = at4 .before in
+    (at5 .loop .inv .0, row-next _ _ _ _ _ (at5 .loop .inv .1) (at5 .loop .inv .2) (at4 .loop-test .taken) (at2 .if1 .left) (c .if2 .left), omega (arith, at5 .loop .inv .2))
 
 returns-3 : tie.Need-returns-3 Inv-loop μ-loop
 returns-3 c = c .before .loop .inv .1

@@ -55,7 +55,11 @@ shared-slice-read-end : tie.Need-shared-slice-read-end
 shared-slice-read-end c = search needs
 
 add-end-2 : tie.Need-add-end-2
-add-end-2 c = let s = c .before .before .before .before .before .before .before .before .before in omega (arith, text-columns (s .args .table .now) 65536 (s .args .node .0) (c .before .before .match .keys6) (s .pre .1 .0))
+add-end-2 c =
+    let at2 = c .before .before in
+    let at9 = at2 .before .before .before .before .before .before .before in
+    let s = at9 in
+    omega (arith, text-columns (s .args .table .now) 65536 (s .args .node .0) (at2 .match .keys6) (s .pre .1 .0))
 
 returns : tie.Need-returns
 returns c = look-nil _ _ _ _ _ _ _ (c .match .keys1)
@@ -70,10 +74,18 @@ returns-3 : tie.Need-returns-3
 returns-3 c = look-one _ _ _ _ _ _ _ (c .match .keys3)
 
 returns-4 : tie.Need-returns-4
-returns-4 c = let s = c .before .before .before .before .before .before .before .before .before in look-flatAlt _ _ _ (s .args .mode .0) _ _ _ _ (c .before .before .match .keys4) (rw (c .if1 .taken))
+returns-4 c =
+    let at2 = c .before .before in
+    let at9 = at2 .before .before .before .before .before .before .before in
+    let s = at9 in
+    look-flatAlt _ _ _ (s .args .mode .0) _ _ _ _ (at2 .match .keys4) (rw (c .if1 .taken))
 
 returns-5 : tie.Need-returns-5
-returns-5 c = let s = c .before .before .before .before .before .before .before .before .before in look-flatAlt _ _ _ (s .args .mode .0) _ _ _ _ (c .before .before .match .keys4) (rw (flat-mode _ (c .if1 .left)))
+returns-5 c =
+    let at2 = c .before .before in
+    let at9 = at2 .before .before .before .before .before .before .before in
+    let s = at9 in
+    look-flatAlt _ _ _ (s .args .mode .0) _ _ _ _ (at2 .match .keys4) (rw (flat-mode _ (c .if1 .left)))
 
 returns-6 : tie.Need-returns-6
 returns-6 c = look-hardline _ _ _ _ _ _ _ (c .before .before .match .keys5) (c .if2 .taken)

@@ -23,7 +23,11 @@ same-length-2 : tie.Need-same-length-2
 same-length-2 c = c .before .before .before .before .leaf .kept .1 .1 .0
 
 returns : tie.Need-returns
-returns c = gives refl (within-one (c .before .before .before .before .before .before .before .before .before .before .before .args .rows) (c .before .before .before .before .before .before .before .before .if1 .taken)) (c .before .before .before .before .leaf .ensures)
+returns c =
+    let at4 = c .before .before .before .before in
+    let at8 = at4 .before .before .before .before in
+    let start = at8 .before .before .before in
+    gives refl (within-one (start .args .rows) (at8 .if1 .taken)) (at4 .leaf .ensures)
 
 slice-aggregate-put-digits : tie.Need-slice-aggregate-put-digits
 slice-aggregate-put-digits c = search needs
@@ -59,7 +63,10 @@ slice-aggregate-put-5 : tie.Need-slice-aggregate-put-5
 slice-aggregate-put-5 c = search needs
 
 put-requires-3 : tie.Need-put-requires-3
-put-requires-3 c κs = placed-length (c .before .before .before .put2 .ensures) (placed-length (c .before .before .before .before .before .before .before .before .put .ensures) (omega arith) .1) .1
+put-requires-3 c κs =
+    let at3 = c .before .before .before in
+    let at8 = at3 .before .before .before .before .before in
+    placed-length (at3 .put2 .ensures) (placed-length (at8 .put .ensures) (omega arith) .1) .1
 
 slice-aggregate-front : tie.Need-slice-aggregate-front
 slice-aggregate-front c = search needs
@@ -77,7 +84,17 @@ same-length-4 : tie.Need-same-length-4
 same-length-4 c = c .before .before .before .before .leaf2 .kept .1 .1 .0
 
 returns-2 : tie.Need-returns-2
-returns-2 c = gives refl (ap leafDoc (c .before .before .before .before .before .front .ensures ∙ said-of-all (c .before .before .before .before .before .before .before .before .before .before .before .before .before .before .before .before .before .before .before .before .before .before .before .before .before .before .before .before .args .rows) allText withinText _ (c .before .before .before .before .before .before .before .before .before .before .before .before .before .before .before .behind .ensures ∙ c .before .before .before .before .before .before .before .before .before .before .before .before .before .before .before .before .before .before .before .before .before .before .before .put-digits .ensures) (c .before .before .before .before .before .before .before .before .before .before .before .before .before .before .before .before .before .before .before .put .ensures) (c .before .before .before .before .before .before .before .before .before .before .before .before .before .before .put2 .ensures) (c .before .before .before .before .before .before .before .before .before .before .put3 .ensures) (omega arith)) ∙ within-all (c .before .before .before .before .before .before .before .before .before .before .before .before .before .before .before .before .before .before .before .before .before .before .before .before .before .before .before .before .args .rows) (c .before .before .before .before .before .before .before .before .before .before .before .before .before .before .before .before .before .before .before .before .before .before .before .before .before .if1 .left)) (c .before .before .before .before .leaf2 .ensures)
+returns-2 c =
+    let at4 = c .before .before .before .before in
+    let at5 = at4 .before in
+    let at10 = at5 .before .before .before .before .before in
+    let at14 = at10 .before .before .before .before in
+    let at15 = at14 .before in
+    let at19 = at15 .before .before .before .before in
+    let at23 = at19 .before .before .before .before in
+    let at25 = at23 .before .before in
+    let start = at25 .before .before .before in
+    gives refl (ap leafDoc (at5 .front .ensures ∙ said-of-all (start .args .rows) allText withinText _ (at15 .behind .ensures ∙ at23 .put-digits .ensures) (at19 .put .ensures) (at14 .put2 .ensures) (at10 .put3 .ensures) (omega arith)) ∙ within-all (start .args .rows) (at25 .if1 .left)) (at4 .leaf2 .ensures)
 
 pub all-within-spec : {M : Type 1} → statement M
 all-within-spec =

@@ -30,13 +30,20 @@ append-requires : tie.Need-append-requires
 append-requires c κs = tt
 
 same-length-3 : tie.Need-same-length-3
-same-length-3 c = c .before .before .append .kept .1 .0 ∙ c .before .before .before .before .before .before .before .before .before .before .before .before .leaf .kept .1 .0
+same-length-3 c =
+    let at2 = c .before .before in
+    let at12 = at2 .before .before .before .before .before .before .before .before .before .before in
+    at2 .append .kept .1 .0 ∙ at12 .leaf .kept .1 .0
 
 same-length-4 : tie.Need-same-length-4
 same-length-4 c = c .before .before .before .before .before .before .before .before .before .before .before .before .leaf .kept .1 .1 .0
 
 returns-2 : tie.Need-returns-2
-returns-2 c = λ i. after (c .before .before .before .before .before .before .before .before .before .before .before .before .leaf .ensures) (c .before .before .before .before .before .before .made .given .1) (λ b. appends (new b) (kept b i) (c .before .before .append .ensures))
+returns-2 c =
+    let at2 = c .before .before in
+    let at6 = at2 .before .before .before .before in
+    let at12 = at6 .before .before .before .before .before .before in
+    λ i. after (at12 .leaf .ensures) (at6 .made .given .1) (λ b. appends (new b) (kept b i) (at2 .append .ensures))
 
 pub comma-spec : {M : Type 1} → statement M
 comma-spec =

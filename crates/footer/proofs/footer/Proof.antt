@@ -11,7 +11,10 @@ count-requires : tie.Need-count-requires
 count-requires c κs = tt
 
 returns : tie.Need-returns
-returns c = λ s. gives refl (footer-none _ (lines (c .before .before .before .before .before .before .before .before .args .input .now)) (c .before .before .count .ensures .0) (c .if1 .taken)) (given (s .none))
+returns c =
+    let at2 = c .before .before in
+    let start = at2 .before .before .before .before .before .before in
+    λ s. gives refl (footer-none _ (lines (start .args .input .now)) (at2 .count .ensures .0) (c .if1 .taken)) (given (s .none))
 
 said-requires : tie.Need-said-requires
 said-requires c κs = search needs
@@ -38,13 +41,23 @@ concat-requires : tie.Need-concat-requires
 concat-requires c κs = tt
 
 same-length-3 : tie.Need-same-length-3
-same-length-3 c = c .before .before .concat .kept .1 .0 ∙ c .before .before .before .before .before .before .before .before .before .before .before .before .before .said .kept .1 .0
+same-length-3 c =
+    let at2 = c .before .before in
+    let at13 = at2 .before .before .before .before .before .before .before .before .before .before .before in
+    at2 .concat .kept .1 .0 ∙ at13 .said .kept .1 .0
 
 same-length-4 : tie.Need-same-length-4
 same-length-4 c = c .before .before .before .before .before .before .before .before .before .before .before .before .before .said .kept .1 .1 .0
 
 returns-3 : tie.Need-returns-3
-returns-3 c = λ s. gives refl (footer-some _ (lines (c .before .before .before .before .before .before .before .before .before .before .before .before .before .before .before .before .before .before .before .before .before .before .before .before .args .input .now)) (c .before .before .before .before .before .before .before .before .before .before .before .before .before .before .before .before .before .before .count .ensures .0) (c .before .before .before .before .before .before .before .before .before .before .before .before .before .before .before .before .if1 .left)) (after (c .before .before .before .before .before .before .before .before .before .before .before .before .before .said .ensures s) (c .before .before .before .before .before .before .before .made .given .1) (λ b. joins (kept b (s .hardline)) (new b) (kept b (s .hardline)) (c .before .before .concat .ensures)))
+returns-3 c =
+    let at2 = c .before .before in
+    let at7 = at2 .before .before .before .before .before in
+    let at13 = at7 .before .before .before .before .before .before in
+    let at16 = at13 .before .before .before in
+    let at18 = at16 .before .before in
+    let start = at18 .before .before .before .before .before .before in
+    λ s. gives refl (footer-some _ (lines (start .args .input .now)) (at18 .count .ensures .0) (at16 .if1 .left)) (after (at13 .said .ensures s) (at7 .made .given .1) (λ b. joins (kept b (s .hardline)) (new b) (kept b (s .hardline)) (at2 .concat .ensures)))
 
 pub footer-spec : {M : Type 1} → statement M
 footer-spec =

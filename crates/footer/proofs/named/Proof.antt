@@ -33,10 +33,16 @@ enum-told-2 : tie.Need-enum-told-2
 enum-told-2 c = search needs
 
 same-length-3 : tie.Need-same-length-3
-same-length-3 c = c .before .before .before .before .before .before .notes .kept .1 .0 ∙ c .before .before .before .before .before .before .before .before .before .before .before .before .before .before .before .before .comma .kept .1 .0
+same-length-3 c =
+    let at6 = c .before .before .before .before .before .before in
+    let at16 = at6 .before .before .before .before .before .before .before .before .before .before in
+    at6 .notes .kept .1 .0 ∙ at16 .comma .kept .1 .0
 
 same-length-4 : tie.Need-same-length-4
-same-length-4 c = c .before .before .before .before .before .before .notes .kept .1 .1 .0 ∙ c .before .before .before .before .before .before .before .before .before .before .before .before .before .before .before .before .comma .kept .1 .1 .0
+same-length-4 c =
+    let at6 = c .before .before .before .before .before .before in
+    let at16 = at6 .before .before .before .before .before .before .before .before .before .before in
+    at6 .notes .kept .1 .1 .0 ∙ at16 .comma .kept .1 .1 .0
 
 returns-2 : tie.Need-returns-2
 returns-2 c = λ s. refused (c .enum-told2 .given .1)
@@ -45,13 +51,27 @@ blocked-requires : tie.Need-blocked-requires
 blocked-requires c κs = tt
 
 same-length-5 : tie.Need-same-length-5
-same-length-5 c = c .before .before .before .before .blocked .kept .1 .0 ∙ c .before .before .before .before .before .before .before .before .before .before .before .before .before .before .notes .kept .1 .0 ∙ c .before .before .before .before .before .before .before .before .before .before .before .before .before .before .before .before .before .before .before .before .before .before .before .before .comma .kept .1 .0
+same-length-5 c =
+    let at4 = c .before .before .before .before in
+    let at14 = at4 .before .before .before .before .before .before .before .before .before .before in
+    let at24 = at14 .before .before .before .before .before .before .before .before .before .before in
+    at4 .blocked .kept .1 .0 ∙ at14 .notes .kept .1 .0 ∙ at24 .comma .kept .1 .0
 
 same-length-6 : tie.Need-same-length-6
-same-length-6 c = c .before .before .before .before .blocked .kept .1 .1 .0 ∙ c .before .before .before .before .before .before .before .before .before .before .before .before .before .before .notes .kept .1 .1 .0 ∙ c .before .before .before .before .before .before .before .before .before .before .before .before .before .before .before .before .before .before .before .before .before .before .before .before .comma .kept .1 .1 .0
+same-length-6 c =
+    let at4 = c .before .before .before .before in
+    let at14 = at4 .before .before .before .before .before .before .before .before .before .before in
+    let at24 = at14 .before .before .before .before .before .before .before .before .before .before in
+    at4 .blocked .kept .1 .1 .0 ∙ at14 .notes .kept .1 .1 .0 ∙ at24 .comma .kept .1 .1 .0
 
 returns-3 : tie.Need-returns-3
-returns-3 c = λ s. after (c .before .before .before .before .before .before .before .before .before .before .before .before .before .before .before .before .before .before .before .before .before .before .before .before .comma .ensures (s .softline)) (c .before .before .before .before .before .before .before .before .before .before .before .before .before .before .before .before .before .before .made .given .1) (λ b. after (c .before .before .before .before .before .before .before .before .before .before .before .before .before .before .notes .ensures (kept b (s .none)) (new b)) (c .before .before .before .before .before .before .before .before .made2 .given .1) (λ q. c .before .before .before .before .blocked .ensures _ (shares-kept q (shares-kept b s)) (new q)))
+returns-3 c =
+    let at4 = c .before .before .before .before in
+    let at8 = at4 .before .before .before .before in
+    let at14 = at8 .before .before .before .before .before .before in
+    let at18 = at14 .before .before .before .before in
+    let at24 = at18 .before .before .before .before .before .before in
+    λ s. after (at24 .comma .ensures (s .softline)) (at18 .made .given .1) (λ b. after (at14 .notes .ensures (kept b (s .none)) (new b)) (at8 .made2 .given .1) (λ q. at4 .blocked .ensures _ (shares-kept q (shares-kept b s)) (new q)))
 
 pub named-spec : {M : Type 1} → statement M
 named-spec =

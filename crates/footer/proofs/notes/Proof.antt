@@ -21,13 +21,17 @@ use Rattle.footer.proofs.notes.Statement.{statement}
 use Rattle.footer.proofs.notes.Tie as tie
 
 abbrev Inv-loop : tie.InvT-loop
-Inv-loop table₀ text₀ comma input c₀ n₀ between₀ at₀ table text c n between at = (length table ≡ length table₀) × (length text ≡ length text₀) × (Is c₀ table₀ text₀ n₀ nil → Is c₀ table₀ text₀ comma commaDoc → Adding c₀ table₀ text₀ commaDoc (intersperseDoc (map leafDoc (outNotes (lines input))) commaDoc) (outNotes (lines (drop at input))) c table text n between)
+Inv-loop table₀ text₀ comma input c₀ n₀ between₀ at₀ table text c n between at =
+    (length table ≡ length table₀) × (length text ≡ length text₀) × (Is c₀ table₀ text₀ n₀ nil → Is c₀ table₀ text₀ comma commaDoc → Adding c₀ table₀ text₀ commaDoc (intersperseDoc (map leafDoc (outNotes (lines input))) commaDoc) (outNotes (lines (drop at input))) c table text n between)
 
 abbrev μ-loop : tie.MeasureT-loop
 μ-loop table₀ text₀ comma input c₀ n₀ between₀ at₀ table text c n between at = length input - at
 
 loop-holds : tie.Need-loop-holds Inv-loop μ-loop
-loop-holds c = let a = c .before .before .before .args in (search needs, search needs, λ i j. none-added (a .c) (a .table .now) (a .text .now) commaDoc (outNotes (lines (a .input .now))) (a .none) i)
+loop-holds c =
+    let start = c .before .before .before in
+    let a = start .args in
+    (search needs, search needs, λ i j. none-added (a .c) (a .table .now) (a .text .now) commaDoc (outNotes (lines (a .input .now))) (a .none) i)
 
 next-out-requires : tie.Need-next-out-requires Inv-loop μ-loop
 next-out-requires c κs = tt
@@ -45,16 +49,38 @@ same-length-2 : tie.Need-same-length-2 Inv-loop μ-loop
 same-length-2 c = c .before .before .before .before .loop .inv .1
 
 returns : tie.Need-returns Inv-loop μ-loop
-returns c = λ i j. all-added (c .before .before .before .before .loop .inv .2 i j) (no-more (c .before .before .before .before .before .before .before .before .args .input .now) (c .before .before .before .before .loop .at) (c .enum-told .given .1) (c .before .before .next-out .ensures .1))
+returns c =
+    let at2 = c .before .before in
+    let at4 = at2 .before .before in
+    let start = at4 .before .before .before .before in
+    λ i j. all-added (at4 .loop .inv .2 i j) (no-more (start .args .input .now) (at4 .loop .at) (c .enum-told .given .1) (at2 .next-out .ensures .1))
 
 sub-add-word : tie.Need-sub-add-word Inv-loop μ-loop
-sub-add-word c = let f = first-of (c .before .before .before .before .before .before .before .before .before .before .before .args .input .now) (c .before .before .before .before .before .before .before .loop .at) (c .before .before .before .next .given .1) (c .before .before .before .before .before .next-out .ensures .1) in omega (arith, f .note)
+sub-add-word c =
+    let at3 = c .before .before .before in
+    let at5 = at3 .before .before in
+    let at7 = at5 .before .before in
+    let start = at7 .before .before .before .before in
+    let f = first-of (start .args .input .now) (at7 .loop .at) (at3 .next .given .1) (at5 .next-out .ensures .1) in
+    omega (arith, f .note)
 
 part-add-word-start : tie.Need-part-add-word-start Inv-loop μ-loop
-part-add-word-start c = let f = first-of (c .before .before .before .before .before .before .before .before .before .before .before .args .input .now) (c .before .before .before .before .before .before .before .loop .at) (c .before .before .before .next .given .1) (c .before .before .before .before .before .next-out .ensures .1) in omega (arith, f .note)
+part-add-word-start c =
+    let at3 = c .before .before .before in
+    let at5 = at3 .before .before in
+    let at7 = at5 .before .before in
+    let start = at7 .before .before .before .before in
+    let f = first-of (start .args .input .now) (at7 .loop .at) (at3 .next .given .1) (at5 .next-out .ensures .1) in
+    omega (arith, f .note)
 
 part-add-word-end : tie.Need-part-add-word-end Inv-loop μ-loop
-part-add-word-end c = let f = first-of (c .before .before .before .before .before .before .before .before .before .before .before .args .input .now) (c .before .before .before .before .before .before .before .loop .at) (c .before .before .before .next .given .1) (c .before .before .before .before .before .next-out .ensures .1) in omega (arith, f .line, f .inside)
+part-add-word-end c =
+    let at3 = c .before .before .before in
+    let at5 = at3 .before .before in
+    let at7 = at5 .before .before in
+    let start = at7 .before .before .before .before in
+    let f = first-of (start .args .input .now) (at7 .loop .at) (at3 .next .given .1) (at5 .next-out .ensures .1) in
+    omega (arith, f .line, f .inside)
 
 add-word-requires : tie.Need-add-word-requires Inv-loop μ-loop
 add-word-requires c κs = tt
@@ -66,22 +92,47 @@ enum-told-2 : tie.Need-enum-told-2 Inv-loop μ-loop
 enum-told-2 c = search needs
 
 same-length-3 : tie.Need-same-length-3 Inv-loop μ-loop
-same-length-3 c = c .before .before .before .before .before .before .add-word .kept .1 .0 ∙ c .before .before .before .before .before .before .before .before .before .before .before .before .before .before .before .loop .inv .0
+same-length-3 c =
+    let at6 = c .before .before .before .before .before .before in
+    let at15 = at6 .before .before .before .before .before .before .before .before .before in
+    at6 .add-word .kept .1 .0 ∙ at15 .loop .inv .0
 
 same-length-4 : tie.Need-same-length-4 Inv-loop μ-loop
-same-length-4 c = c .before .before .before .before .before .before .add-word .kept .1 .1 .0 ∙ c .before .before .before .before .before .before .before .before .before .before .before .before .before .before .before .loop .inv .1
+same-length-4 c =
+    let at6 = c .before .before .before .before .before .before in
+    let at15 = at6 .before .before .before .before .before .before .before .before .before in
+    at6 .add-word .kept .1 .1 .0 ∙ at15 .loop .inv .1
 
 returns-2 : tie.Need-returns-2 Inv-loop μ-loop
 returns-2 c = λ i j. refused (c .enum-told2 .given .1)
 
 add-at : tie.Need-add-at Inv-loop μ-loop
-add-at c = let f = first-of (c .before .before .before .before .before .before .before .before .before .before .before .before .before .before .before .before .before .before .before .before .args .input .now) (c .before .before .before .before .before .before .before .before .before .before .before .before .before .before .before .before .loop .at) (c .before .before .before .before .before .before .before .before .before .before .before .before .next .given .1) (c .before .before .before .before .before .before .before .before .before .before .before .before .before .before .next-out .ensures .1) in omega (arith, f .inside, c .before .before .before .before .before .before .before .before .before .before .before .before .before .before .before .before .before .before .before .before .good .1 .1 .1 .1 .1 .0)
+add-at c =
+    let at12 = c .before .before .before .before .before .before .before .before .before .before .before .before in
+    let at14 = at12 .before .before in
+    let at16 = at14 .before .before in
+    let start = at16 .before .before .before .before in
+    let f = first-of (start .args .input .now) (at16 .loop .at) (at12 .next .given .1) (at14 .next-out .ensures .1) in
+    omega (arith, f .inside, start .good .1 .1 .1 .1 .1 .0)
 
 loop-less : tie.Need-loop-less Inv-loop μ-loop
-loop-less c = let f = first-of (c .before .before .before .before .before .before .before .before .before .before .before .before .before .before .before .before .before .before .before .before .args .input .now) (c .before .before .before .before .before .before .before .before .before .before .before .before .before .before .before .before .loop .at) (c .before .before .before .before .before .before .before .before .before .before .before .before .next .given .1) (c .before .before .before .before .before .before .before .before .before .before .before .before .before .before .next-out .ensures .1) in omega (arith, f .ahead, f .note, f .line)
+loop-less c =
+    let at12 = c .before .before .before .before .before .before .before .before .before .before .before .before in
+    let at14 = at12 .before .before in
+    let at16 = at14 .before .before in
+    let start = at16 .before .before .before .before in
+    let f = first-of (start .args .input .now) (at16 .loop .at) (at12 .next .given .1) (at14 .next-out .ensures .1) in
+    omega (arith, f .ahead, f .note, f .line)
 
 loop-again : tie.Need-loop-again Inv-loop μ-loop
-loop-again c = let f = first-of (c .before .before .before .before .before .before .before .before .before .before .before .before .before .before .before .before .before .before .before .before .args .input .now) (c .before .before .before .before .before .before .before .before .before .before .before .before .before .before .before .before .loop .at) (c .before .before .before .before .before .before .before .before .before .before .before .before .next .given .1) (c .before .before .before .before .before .before .before .before .before .before .before .before .before .before .next-out .ensures .1) in (search needs, search needs, λ i j. one-added (c .before .before .before .before .before .before .before .before .before .before .before .before .before .before .before .before .loop .inv .2 i j) _ _ (f .names) (c .before .before .before .before .before .before .before .add-word .ensures) (c .before .made .given .1) j)
+loop-again c =
+    let at7 = c .before .before .before .before .before .before .before in
+    let at12 = at7 .before .before .before .before .before in
+    let at14 = at12 .before .before in
+    let at16 = at14 .before .before in
+    let start = at16 .before .before .before .before in
+    let f = first-of (start .args .input .now) (at16 .loop .at) (at12 .next .given .1) (at14 .next-out .ensures .1) in
+    (search needs, search needs, λ i j. one-added (at16 .loop .inv .2 i j) _ _ (f .names) (at7 .add-word .ensures) (c .before .made .given .1) j)
 
 same-length-5 : tie.Need-same-length-5 Inv-loop μ-loop
 same-length-5 c = c .before .loop .inv .0
@@ -90,7 +141,9 @@ same-length-6 : tie.Need-same-length-6 Inv-loop μ-loop
 same-length-6 c = c .before .loop .inv .1
 
 returns-3 : tie.Need-returns-3 Inv-loop μ-loop
-returns-3 c = λ i j. all-added (c .before .loop .inv .2 i j) (no-notes (c .before .before .before .before .before .args .input .now) (c .before .loop .at) (omega arith))
+returns-3 c =
+    let start = c .before .before .before .before .before in
+    λ i j. all-added (c .before .loop .inv .2 i j) (no-notes (start .args .input .now) (c .before .loop .at) (omega arith))
 
 pub notes-spec : {M : Type 1} → statement M
 notes-spec =

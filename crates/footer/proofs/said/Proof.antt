@@ -17,7 +17,11 @@ same-length-2 : tie.Need-same-length-2
 same-length-2 c = c .before .before .before .before .all-within .kept .1 .1 .0
 
 returns : tie.Need-returns
-returns c = λ s. let a = c .before .before .before .before .before .before .before .before .before .before .before .args in gives refl (told-none (a .rows) (outNotes (lines (a .input .now))) (a .out) (c .before .before .before .before .before .before .before .before .before .before .before .pre) (c .before .before .before .before .before .before .before .if1 .taken)) (c .before .before .before .before .all-within .ensures)
+returns c =
+    let at4 = c .before .before .before .before in
+    let at7 = at4 .before .before .before in
+    let start = at7 .before .before .before .before in
+    λ s. let a = start .args in gives refl (told-none (a .rows) (outNotes (lines (a .input .now))) (a .out) (start .pre) (at7 .if1 .taken)) (at4 .all-within .ensures)
 
 named-requires : tie.Need-named-requires
 named-requires c κs = tt
@@ -29,7 +33,11 @@ same-length-4 : tie.Need-same-length-4
 same-length-4 c = c .before .before .before .before .named .kept .1 .1 .0
 
 returns-2 : tie.Need-returns-2
-returns-2 c = λ s. let a = c .before .before .before .before .before .before .before .before .before .before .before .args in gives refl (told-some (a .rows) (outNotes (lines (a .input .now))) (a .out) (c .before .before .before .before .before .before .before .before .before .before .before .pre) (c .before .before .before .before .before .before .before .if1 .left)) (c .before .before .before .before .named .ensures s)
+returns-2 c =
+    let at4 = c .before .before .before .before in
+    let at7 = at4 .before .before .before in
+    let start = at7 .before .before .before .before in
+    λ s. let a = start .args in gives refl (told-some (a .rows) (outNotes (lines (a .input .now))) (a .out) (start .pre) (at7 .if1 .left)) (at4 .named .ensures s)
 
 pub said-spec : {M : Type 1} → statement M
 said-spec =

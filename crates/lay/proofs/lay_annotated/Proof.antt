@@ -13,7 +13,11 @@ same-length : tie.Need-same-length
 same-length c = search needs
 
 returns : tie.Need-returns
-returns c = let s = c .before .before .before .before .before .before .before .before in annotated-no (s .args .s) _ _ (s .args .work .now) _ _ _ _ _ _ (not-true _ (c .if1 .taken)) (c .before .before .before .put-event .ensures)
+returns c =
+    let at3 = c .before .before .before in
+    let at8 = at3 .before .before .before .before .before in
+    let s = at8 in
+    annotated-no (s .args .s) _ _ (s .args .work .now) _ _ _ _ _ _ (not-true _ (c .if1 .taken)) (at3 .put-event .ensures)
 
 push-mark-requires : tie.Need-push-mark-requires
 push-mark-requires c κs = search needs
@@ -34,7 +38,30 @@ same-length-3 : tie.Need-same-length-3
 same-length-3 c = search needs
 
 returns-2 : tie.Need-returns-2
-returns-2 c = let s = c .before .before .before .before .before .before .before .before .before .before .before .before .before .before in annotated-yes (s .args .s) _ _ (s .args .work .now) _ _ _ _ _ (s .args .hand .mode .0) _ _ (not-false _ (c .before .before .before .before .before .before .if1 .left)) (c .before .before .before .before .before .before .before .before .before .put-event .ensures) (c .before .before .before .before .before .before .before .before .before .put-event .kept .0) (c .child-of .ensures) (c .before .before .before .before .push-mark .ensures)
+returns-2 c =
+    let at4 = c .before .before .before .before in
+    let at6 = at4 .before .before in
+    let at9 = at6 .before .before .before in
+    let at14 = at9 .before .before .before .before .before in
+    let s = at14 in
+    annotated-yes
+    (s .args .s)
+    _
+    _
+    (s .args .work .now)
+    _
+    _
+    _
+    _
+    _
+    (s .args .hand .mode .0)
+    _
+    _
+    (not-false _ (at6 .if1 .left))
+    (at9 .put-event .ensures)
+    (at9 .put-event .kept .0)
+    (c .child-of .ensures)
+    (at4 .push-mark .ensures)
 
 pub lay-annotated-spec : {M : Type 1} → statement M
 lay-annotated-spec =

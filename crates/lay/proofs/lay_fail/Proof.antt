@@ -30,7 +30,12 @@ hand-at-requires : tie.Need-hand-at-requires
 hand-at-requires c κs = search needs
 
 returns-2 : tie.Need-returns-2
-returns-2 c = fail-some (c .before .before .before .before .before .before .args .s) _ _ _ _ _ (c .before .before .before .before .nearest .ensures) (c .before .before .before .if1 .left) (c .hand-at .ensures) (c .before .before .saved-at .ensures) (c .before .restored .ensures)
+returns-2 c =
+    let at2 = c .before .before in
+    let at3 = at2 .before in
+    let at4 = at3 .before in
+    let start = at4 .before .before in
+    fail-some (start .args .s) _ _ _ _ _ (at4 .nearest .ensures) (at3 .if1 .left) (c .hand-at .ensures) (at2 .saved-at .ensures) (c .before .restored .ensures)
 
 pub lay-fail-spec : {M : Type 1} → statement M
 lay-fail-spec =

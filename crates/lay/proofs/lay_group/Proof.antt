@@ -10,7 +10,10 @@ child-of-requires : tie.Need-child-of-requires
 child-of-requires c κs = search needs
 
 returns : tie.Need-returns
-returns c = let s = c .before .before .before .before .before in group-flat _ _ _ _ _ (s .args .hand .mode .0) (s .args .s) _ (c .before .if1 .taken) (c .child-of .ensures)
+returns c =
+    let at5 = c .before .before .before .before .before in
+    let s = at5 in
+    group-flat _ _ _ _ _ (s .args .hand .mode .0) (s .args .s) _ (c .before .if1 .taken) (c .child-of .ensures)
 
 fitting-requires : tie.Need-fitting-requires
 fitting-requires c κs = search needs
@@ -28,19 +31,79 @@ same-length : tie.Need-same-length
 same-length c = search needs
 
 returns-2 : tie.Need-returns-2
-returns-2 c = let s = c .before .before .before .before .before .before .before .before .before .before .before .before .before in let f = c .before .before .before .before .before .fitting .ensures in group-yes _ _ _ _ _ _ (s .args .hand .mode .0) (s .args .s) _ (c .before .before .before .before .before .before .before .before .before .if1 .left) (stack-same _ _ _ (same-less _ 1024 _ _ (s .pre .deep) (f .same))) f _ (c .before .left .given .1)
+returns-2 c =
+    let at5 = c .before .before .before .before .before in
+    let at9 = at5 .before .before .before .before in
+    let at13 = at9 .before .before .before .before in
+    let s = at13 in
+    let f = at5 .fitting .ensures in
+    group-yes
+    _
+    _
+    _
+    _
+    _
+    _
+    (s .args .hand .mode .0)
+    (s .args .s)
+    _
+    (at9 .if1 .left)
+    (stack-same _ _ _ (same-less _ 1024 _ _ (s .pre .deep) (f .same)))
+    f
+    _
+    (c .before .left .given .1)
 
 same-length-2 : tie.Need-same-length-2
 same-length-2 c = search needs
 
 returns-3 : tie.Need-returns-3
-returns-3 c = let s = c .before .before .before .before .before .before .before .before .before .before .before .before .before in let f = c .before .before .before .before .before .fitting .ensures in group-no _ _ _ _ _ _ (s .args .hand .mode .0) (s .args .s) _ (c .before .before .before .before .before .before .before .before .before .if1 .left) (stack-same _ _ _ (same-less _ 1024 _ _ (s .pre .deep) (f .same))) f _ (c .before .left2 .given .1)
+returns-3 c =
+    let at5 = c .before .before .before .before .before in
+    let at9 = at5 .before .before .before .before in
+    let at13 = at9 .before .before .before .before in
+    let s = at13 in
+    let f = at5 .fitting .ensures in
+    group-no
+    _
+    _
+    _
+    _
+    _
+    _
+    (s .args .hand .mode .0)
+    (s .args .s)
+    _
+    (at9 .if1 .left)
+    (stack-same _ _ _ (same-less _ 1024 _ _ (s .pre .deep) (f .same)))
+    f
+    _
+    (c .before .left2 .given .1)
 
 same-length-3 : tie.Need-same-length-3
 same-length-3 c = search needs
 
 returns-4 : tie.Need-returns-4
-returns-4 c = let s = c .before .before .before .before .before .before .before .before .before .before .before .before .before in let f = c .before .before .before .before .before .fitting .ensures in group-due _ _ _ _ _ _ (s .args .hand .mode .0) (s .args .s) _ (c .before .before .before .before .before .before .before .before .before .if1 .left) (stack-same _ _ _ (same-less _ 1024 _ _ (s .pre .deep) (f .same))) f _ (c .before .node .given .1)
+returns-4 c =
+    let at5 = c .before .before .before .before .before in
+    let at9 = at5 .before .before .before .before in
+    let at13 = at9 .before .before .before .before in
+    let s = at13 in
+    let f = at5 .fitting .ensures in
+    group-due
+    _
+    _
+    _
+    _
+    _
+    _
+    (s .args .hand .mode .0)
+    (s .args .s)
+    _
+    (at9 .if1 .left)
+    (stack-same _ _ _ (same-less _ 1024 _ _ (s .pre .deep) (f .same)))
+    f
+    _
+    (c .before .node .given .1)
 
 pub lay-group-spec : {M : Type 1} → statement M
 lay-group-spec =

@@ -17,7 +17,10 @@ sub-if1 : tie.Need-sub-if1
 sub-if1 c = search needs
 
 returns : tie.Need-returns
-returns c = let s = c .before .before .before in put-no (s .args .s) _ _ (s .args .len) (λ p. p .column + s .args .columns) (simp (length-take, length-drop) (omega arith)) (omega arith) _ (omega arith)
+returns c =
+    let at3 = c .before .before .before in
+    let s = at3 in
+    put-no (s .args .s) _ _ (s .args .len) (λ p. p .column + s .args .columns) (simp (length-take, length-drop) (omega arith)) (omega arith) _ (omega arith)
 
 copy-over-requires : tie.Need-copy-over-requires
 copy-over-requires c κs = search needs

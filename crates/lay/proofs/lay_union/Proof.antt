@@ -27,7 +27,12 @@ same-length : tie.Need-same-length
 same-length c = search needs
 
 returns : tie.Need-returns
-returns c = let s = c .before .before .before .before .before .before .before .before .before .before in union-kept (s .args .s) (s .args .work .now) _ _ _ _ _ _ (c .child-of2 .ensures) (rw (c .before .before .before .before .before .before .child-of .ensures) at (c .before .before .before .push-trial .ensures))
+returns c =
+    let at3 = c .before .before .before in
+    let at6 = at3 .before .before .before in
+    let at10 = at6 .before .before .before .before in
+    let s = at10 in
+    union-kept (s .args .s) (s .args .work .now) _ _ _ _ _ _ (c .child-of2 .ensures) (rw (at6 .child-of .ensures) at (at3 .push-trial .ensures))
 
 pub lay-union-spec : {M : Type 1} → statement M
 lay-union-spec =

@@ -19,7 +19,8 @@ sub-if1 : tie.Need-sub-if1
 sub-if1 c = search needs
 
 returns : tie.Need-returns
-returns c = record { fits = sym (le-ltb (c .before .args .marks) (length (c .before .args .events .now) / eventWords) (omega arith)); room = λ e. absurd (false≢true e); noted = λ e. absurd (false≢true e) }
+returns c =
+    record { fits = sym (le-ltb (c .before .args .marks) (length (c .before .args .events .now) / eventWords) (omega arith)); room = λ e. absurd (false≢true e); noted = λ e. absurd (false≢true e) }
 
 cast-events : tie.Need-cast-events
 cast-events c = search needs
@@ -52,7 +53,10 @@ same-length : tie.Need-same-length
 same-length c = simp length-set
 
 returns-2 : tie.Need-returns-2
-returns-2 c = record { fits = sym (lt-ltb (c .before .args .marks) (length (c .before .args .events .now) / eventWords) (omega arith)); room = λ e. omega arith; noted = λ e. events-more (c .before .args .events .now) (c .before .args .marks) (c .before .args .offset) (c .before .args .mark) (c .before .args .label) (omega arith) }
+returns-2 c =
+    let marks-2 = c .before .args .marks in
+    let events-2 = c .before .args .events .now in
+    record { fits = sym (lt-ltb marks-2 (length events-2 / eventWords) (omega arith)); room = λ e. omega arith; noted = λ e. events-more events-2 marks-2 (c .before .args .offset) (c .before .args .mark) (c .before .args .label) (omega arith) }
 
 pub put-event-spec : {M : Type 1} → statement M
 put-event-spec =

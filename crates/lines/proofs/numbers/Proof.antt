@@ -16,7 +16,10 @@ part-store-list-start : tie.Need-part-store-list-start
 part-store-list-start c = search needs
 
 part-store-list-end : tie.Need-part-store-list-end
-part-store-list-end c = let a = c .before .before .before .args in omega (arith, c .part-end .ensures, part-within (a .line .now) (a .from) 124 (c .before .before .before .pre .0))
+part-store-list-end c =
+    let start = c .before .before .before in
+    let a = start .args in
+    omega (arith, c .part-end .ensures, part-within (a .line .now) (a .from) 124 (start .pre .0))
 
 store-list-requires : tie.Need-store-list-requires
 store-list-requires c κs = search needs

@@ -14,7 +14,12 @@ same-length : tie.Need-same-length
 same-length c = search needs
 
 returns : tie.Need-returns
-returns c = let a = c .before .before .before .before .before .before .args in store-some (a .out .now) (a .count) (a .times) (a .v) (c .before .before .before .before .before .before .pre) _ (c .before .before .before .before .if1 .taken) (c .before .before .fill-words .ensures)
+returns c =
+    let at2 = c .before .before in
+    let at4 = at2 .before .before in
+    let start = at4 .before .before in
+    let a = start .args in
+    store-some (a .out .now) (a .count) (a .times) (a .v) (start .pre) _ (at4 .if1 .taken) (at2 .fill-words .ensures)
 
 fill-words-requires-2 : tie.Need-fill-words-requires-2
 fill-words-requires-2 c κs = search needs
@@ -26,7 +31,12 @@ same-length-2 : tie.Need-same-length-2
 same-length-2 c = search needs
 
 returns-2 : tie.Need-returns-2
-returns-2 c = let a = c .before .before .before .before .before .before .args in store-all (a .out .now) (a .count) (a .times) (a .v) (c .before .before .before .before .before .before .pre) _ (c .before .before .before .before .if1 .left) (c .before .before .fill-words2 .ensures)
+returns-2 c =
+    let at2 = c .before .before in
+    let at4 = at2 .before .before in
+    let start = at4 .before .before in
+    let a = start .args in
+    store-all (a .out .now) (a .count) (a .times) (a .v) (start .pre) _ (at4 .if1 .left) (at2 .fill-words2 .ensures)
 
 pub store-spec : {M : Type 1} → statement M
 store-spec =

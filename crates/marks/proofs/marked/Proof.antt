@@ -33,7 +33,12 @@ cast-offset c = omega (arith, c .shared-slice-known .given (c .before .before .l
 
 returns : tie.Need-returns Inv-loop μ-loop
 unfolding markedAt
-returns c = let L = c .before .before .before .loop in let events = c .before .before .before .before .args .events .now in ap (ltb 0) (sym (past events (L .i) (L .«open») (c .before .before .before .before .args .at) (omega arith) (c .if1 .taken)) ∙ L .inv .2)
+returns c =
+    let at3 = c .before .before .before in
+    let start = at3 .before in
+    let L = at3 .loop in
+    let events = start .args .events .now in
+    ap (ltb 0) (sym (past events (L .i) (L .«open») (start .args .at) (omega arith) (c .if1 .taken)) ∙ L .inv .2)
 
 add-mark : tie.Need-add-mark Inv-loop μ-loop
 add-mark c = search needs
@@ -54,7 +59,12 @@ loop-less : tie.Need-loop-less Inv-loop μ-loop
 loop-less c = search needs
 
 loop-again : tie.Need-loop-again Inv-loop μ-loop
-loop-again c = let L = c .before .before .before .before .before .loop in let events = c .before .before .before .before .before .before .args .events .now in (omega arith, omega arith, opens events (L .i) (L .«open») (c .before .before .before .before .before .before .args .at) (omega arith) (omega arith) (c .if2 .taken) ∙ L .inv .2)
+loop-again c =
+    let at5 = c .before .before .before .before .before in
+    let start = at5 .before in
+    let L = at5 .loop in
+    let events = start .args .events .now in
+    (omega arith, omega arith, opens events (L .i) (L .«open») (start .args .at) (omega arith) (omega arith) (c .if2 .taken) ∙ L .inv .2)
 
 sub-open : tie.Need-sub-open Inv-loop μ-loop
 sub-open c = search needs
@@ -63,17 +73,32 @@ loop-less-2 : tie.Need-loop-less-2 Inv-loop μ-loop
 loop-less-2 c = search needs
 
 loop-again-2 : tie.Need-loop-again-2 Inv-loop μ-loop
-loop-again-2 c = let L = c .before .before .before .before .before .before .loop in let events = c .before .before .before .before .before .before .before .args .events .now in (omega arith, omega arith, closes events (L .i) (L .«open») (c .before .before .before .before .before .before .before .args .at) (omega arith) (omega arith) (c .before .if2 .left) ∙ L .inv .2)
+loop-again-2 c =
+    let at6 = c .before .before .before .before .before .before in
+    let start = at6 .before in
+    let L = at6 .loop in
+    let events = start .args .events .now in
+    (omega arith, omega arith, closes events (L .i) (L .«open») (start .args .at) (omega arith) (omega arith) (c .before .if2 .left) ∙ L .inv .2)
 
 loop-less-3 : tie.Need-loop-less-3 Inv-loop μ-loop
 loop-less-3 c = search needs
 
 loop-again-3 : tie.Need-loop-again-3 Inv-loop μ-loop
-loop-again-3 c = let L = c .before .before .before .before .before .before .loop in let events = c .before .before .before .before .before .before .before .args .events .now in let none : L .«open» ≡ L .«open» - 1 = omega arith in (omega arith, omega arith, ap (λ (n : ℕ). openAt n (drop (L .i + 3) events) (c .before .before .before .before .before .before .before .args .at)) none ∙ closes events (L .i) (L .«open») (c .before .before .before .before .before .before .before .args .at) (omega arith) (omega arith) (c .before .if2 .left) ∙ L .inv .2)
+loop-again-3 c =
+    let at6 = c .before .before .before .before .before .before in
+    let start = at6 .before in
+    let L = at6 .loop in
+    let events = start .args .events .now in
+    let none : L .«open» ≡ L .«open» - 1 = omega arith in
+    (omega arith, omega arith, ap (λ (n : ℕ). openAt n (drop (L .i + 3) events) (start .args .at)) none ∙ closes events (L .i) (L .«open») (start .args .at) (omega arith) (omega arith) (c .before .if2 .left) ∙ L .inv .2)
 
 returns-2 : tie.Need-returns-2 Inv-loop μ-loop
 unfolding markedAt
-returns-2 c = let L = c .before .loop in let events = c .before .before .args .events .now in ap (ltb 0) (sym (no-mark (L .«open») (c .before .before .args .at) events (L .i) (omega arith)) ∙ L .inv .2)
+returns-2 c =
+    let start = c .before .before in
+    let L = c .before .loop in
+    let events = start .args .events .now in
+    ap (ltb 0) (sym (no-mark (L .«open») (start .args .at) events (L .i) (omega arith)) ∙ L .inv .2)
 
 pub marked-spec : {M : Type 1} → statement M
 marked-spec =

@@ -13,7 +13,9 @@ returns : tie.Need-returns
 returns c = built-short _ _ _ _ (c .if1 .taken)
 
 returns-2 : tie.Need-returns-2
-returns-2 c = block-many _ _ _ (c .before .before .before .before .before .before .before .before .args .nests .now) _ _ _ (c .before .if1 .left) (c .if2 .taken)
+returns-2 c =
+    let start = c .before .before .before .before .before .before .before .before in
+    block-many _ _ _ (start .args .nests .now) _ _ _ (c .before .if1 .left) (c .if2 .taken)
 
 slice-aggregate-set-flags : tie.Need-slice-aggregate-set-flags
 slice-aggregate-set-flags c = search needs

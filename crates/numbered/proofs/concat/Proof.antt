@@ -28,7 +28,27 @@ same-length-2 : tie.Need-same-length-2
 same-length-2 c = search needs
 
 returns-2 : tie.Need-returns-2
-returns-2 c = built-settled (λ (s : Counts) (t x : List ℕ). concatMade s t x (c .before .before .before .before .before .before .before .before .before .before .before .before .before .before .before .args .nodes .now)) _ _ _ _ _ _ _ _ _ (c .before .before .before .before .before .before .before .before .before .before .if1 .left) (c .before .before .before .before .before .before .before .before .counts-of .ensures) (c .before .before .before .before .before .before .concat .ensures) (c .before .before .settle .ensures)
+returns-2 c =
+    let at2 = c .before .before in
+    let at6 = at2 .before .before .before .before in
+    let at8 = at6 .before .before in
+    let at10 = at8 .before .before in
+    let start = at10 .before .before .before .before .before in
+    built-settled
+    (λ (s : Counts) (t x : List ℕ). concatMade s t x (start .args .nodes .now))
+    _
+    _
+    _
+    _
+    _
+    _
+    _
+    _
+    _
+    (at10 .if1 .left)
+    (at8 .counts-of .ensures)
+    (at6 .concat .ensures)
+    (at2 .settle .ensures)
 
 pub concat-spec : {M : Type 1} → statement M
 concat-spec =

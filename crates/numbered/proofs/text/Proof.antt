@@ -31,7 +31,27 @@ same-length-3 : tie.Need-same-length-3
 same-length-3 c = search needs
 
 returns-2 : tie.Need-returns-2
-returns-2 c = built-settled (λ (s : Counts) (t x : List ℕ). textMade s t x (c .before .before .before .before .before .before .before .before .before .before .before .before .before .before .before .before .before .before .args .bytes .now) (c .before .before .before .before .before .before .before .before .before .before .before .before .before .before .before .before .before .before .args .columns)) _ _ _ _ _ _ _ _ _ (c .before .before .before .before .before .before .before .before .before .before .before .before .before .if1 .left) (c .before .before .before .before .before .before .before .before .before .before .before .counts-of .ensures) (c .before .before .before .before .before .before .before .before .text .ensures) (c .before .before .settle .ensures)
+returns-2 c =
+    let at2 = c .before .before in
+    let at8 = at2 .before .before .before .before .before .before in
+    let at11 = at8 .before .before .before in
+    let at13 = at11 .before .before in
+    let start = at13 .before .before .before .before .before in
+    built-settled
+    (λ (s : Counts) (t x : List ℕ). textMade s t x (start .args .bytes .now) (start .args .columns))
+    _
+    _
+    _
+    _
+    _
+    _
+    _
+    _
+    _
+    (at13 .if1 .left)
+    (at11 .counts-of .ensures)
+    (at8 .text .ensures)
+    (at2 .settle .ensures)
 
 pub text-spec : {M : Type 1} → statement M
 text-spec =

@@ -18,7 +18,10 @@ part-end-requires-2 : tie.Need-part-end-requires-2
 part-end-requires-2 c κs = search needs
 
 returns-2 : tie.Need-returns-2
-returns-2 c = (no-pluck (c .before .before .before .before .before .args .s .now) (c .before .before .before .part-end .result) (c .before .before .before .part-end .ensures) (c .before .part-end2 .result) (c .before .part-end2 .ensures) (omega arith) (c .if2 .taken), tt)
+returns-2 c =
+    let at3 = c .before .before .before in
+    let start = at3 .before .before in
+    (no-pluck (start .args .s .now) (at3 .part-end .result) (at3 .part-end .ensures) (c .before .part-end2 .result) (c .before .part-end2 .ensures) (omega arith) (c .if2 .taken), tt)
 
 add-part-end-2 : tie.Need-add-part-end-2
 add-part-end-2 c = search needs
@@ -27,10 +30,18 @@ part-end-requires-3 : tie.Need-part-end-requires-3
 part-end-requires-3 c κs = search needs
 
 returns-3 : tie.Need-returns-3
-returns-3 c = (no-remark (c .before .before .before .before .before .before .before .args .s .now) (c .before .before .before .before .before .part-end .result) (c .before .before .before .before .before .part-end .ensures) (c .before .before .before .part-end2 .result) (c .before .before .before .part-end2 .ensures) (omega arith) (c .before .part-end3 .result) (c .before .part-end3 .ensures) (omega arith) (c .if3 .taken), tt)
+returns-3 c =
+    let at3 = c .before .before .before in
+    let at5 = at3 .before .before in
+    let start = at5 .before .before in
+    (no-remark (start .args .s .now) (at5 .part-end .result) (at5 .part-end .ensures) (at3 .part-end2 .result) (at3 .part-end2 .ensures) (omega arith) (c .before .part-end3 .result) (c .before .part-end3 .ensures) (omega arith) (c .if3 .taken), tt)
 
 returns-4 : tie.Need-returns-4
-returns-4 c = (fields-are (c .before .before .before .before .before .before .before .args .s .now) (c .before .before .before .before .before .part-end .result) (c .before .before .before .before .before .part-end .ensures) (c .before .before .before .part-end2 .result) (c .before .before .before .part-end2 .ensures) (omega arith) (c .before .part-end3 .result) (c .before .part-end3 .ensures) (omega arith) (omega arith), (omega arith, omega arith, omega arith))
+returns-4 c =
+    let at3 = c .before .before .before in
+    let at5 = at3 .before .before in
+    let start = at5 .before .before in
+    (fields-are (start .args .s .now) (at5 .part-end .result) (at5 .part-end .ensures) (at3 .part-end2 .result) (at3 .part-end2 .ensures) (omega arith) (c .before .part-end3 .result) (c .before .part-end3 .ensures) (omega arith) (omega arith), (omega arith, omega arith, omega arith))
 
 pub fields-spec : {M : Type 1} → statement M
 fields-spec =

@@ -16,7 +16,10 @@ is-blank-requires : tie.Need-is-blank-requires
 is-blank-requires c κs = search needs
 
 returns : tie.Need-returns
-returns c = let a = c .before .before .before .before .args in no-note (a .s .now) (a .first) (a .second) (a .third) (sym (c .before .is-blank .ensures) ∙ c .if1 .taken)
+returns c =
+    let start = c .before .before .before .before in
+    let a = start .args in
+    no-note (a .s .now) (a .first) (a .second) (a .third) (sym (c .before .is-blank .ensures) ∙ c .if1 .taken)
 
 slice-aggregate-columns : tie.Need-slice-aggregate-columns
 slice-aggregate-columns c = sym (length-take-le _ _ (omega arith))
@@ -25,7 +28,12 @@ columns-requires : tie.Need-columns-requires
 columns-requires c κs = search needs
 
 returns-2 : tie.Need-returns-2
-returns-2 c = let a = c .before .before .before .before .before .before .before .args in long-note (a .s .now) (a .first) (a .second) (a .third) (sym (c .before .before .before .before .is-blank .ensures) ∙ c .before .before .before .if1 .left) (c .before .columns .result) (c .before .columns .ensures) (c .if2 .taken)
+returns-2 c =
+    let at3 = c .before .before .before in
+    let at4 = at3 .before in
+    let start = at4 .before .before .before in
+    let a = start .args in
+    long-note (a .s .now) (a .first) (a .second) (a .third) (sym (at4 .is-blank .ensures) ∙ at3 .if1 .left) (c .before .columns .result) (c .before .columns .ensures) (c .if2 .taken)
 
 add-force : tie.Need-add-force
 add-force c = search needs
@@ -61,7 +69,14 @@ measured-requires : tie.Need-measured-requires
 measured-requires c κs = search needs
 
 returns-3 : tie.Need-returns-3
-returns-3 c = let a = c .before .before .before .before .before .before .before .before .before .before .before .before .args in c .measured .ensures ∙ ap₂ (measured (a .first) (a .second) (a .third)) (c .before .before .before .number .ensures) (c .before .tenths .ensures) ∙ pallet-is (a .s .now) (a .first) (a .second) (a .third) (sym (c .before .before .before .before .before .before .before .before .before .is-blank .ensures) ∙ c .before .before .before .before .before .before .before .before .if1 .left) (c .before .before .before .before .before .before .columns .result) (c .before .before .before .before .before .before .columns .ensures) (omega arith)
+returns-3 c =
+    let at3 = c .before .before .before in
+    let at6 = at3 .before .before .before in
+    let at8 = at6 .before .before in
+    let at9 = at8 .before in
+    let start = at9 .before .before .before in
+    let a = start .args in
+    c .measured .ensures ∙ ap₂ (measured (a .first) (a .second) (a .third)) (at3 .number .ensures) (c .before .tenths .ensures) ∙ pallet-is (a .s .now) (a .first) (a .second) (a .third) (sym (at9 .is-blank .ensures) ∙ at8 .if1 .left) (at6 .columns .result) (at6 .columns .ensures) (omega arith)
 
 pub pallet-at-spec : {M : Type 1} → statement M
 pallet-at-spec =

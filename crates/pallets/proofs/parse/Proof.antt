@@ -22,14 +22,23 @@ has-controls-requires c κs = search needs
 
 returns-3 : tie.Need-returns-3
 unfolding parsed
-returns-3 c = simp (le-ltb _ _ (c .before .before .before .before .if1 .left), sym (c .before .before .before .well-formed .ensures) ∙ not-false _ (c .before .before .if2 .left), sym (c .before .has-controls .ensures) ∙ c .if3 .taken)
+returns-3 c =
+    let at2 = c .before .before in
+    let at3 = at2 .before in
+    let at4 = at3 .before in
+    simp (le-ltb _ _ (at4 .if1 .left), sym (at3 .well-formed .ensures) ∙ not-false _ (at2 .if2 .left), sym (c .before .has-controls .ensures) ∙ c .if3 .taken)
 
 said-requires : tie.Need-said-requires
 said-requires c κs = search needs
 
 returns-4 : tie.Need-returns-4
 unfolding parsed
-returns-4 c = c .said .ensures ∙ simp (le-ltb _ _ (c .before .before .before .before .before .if1 .left), sym (c .before .before .before .before .well-formed .ensures) ∙ not-false _ (c .before .before .before .if2 .left), sym (c .before .before .has-controls .ensures) ∙ c .before .if3 .left)
+returns-4 c =
+    let at2 = c .before .before in
+    let at3 = at2 .before in
+    let at4 = at3 .before in
+    let at5 = at4 .before in
+    c .said .ensures ∙ simp (le-ltb _ _ (at5 .if1 .left), sym (at4 .well-formed .ensures) ∙ not-false _ (at3 .if2 .left), sym (at2 .has-controls .ensures) ∙ c .before .if3 .left)
 
 pub parse-spec : {M : Type 1} → statement M
 parse-spec =

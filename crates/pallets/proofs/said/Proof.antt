@@ -30,15 +30,31 @@ enum-known-fields-2 : tie.Need-enum-known-fields-2
 enum-known-fields-2 c = search needs
 
 pallet-at-requires : tie.Need-pallet-at-requires
-pallet-at-requires c κs = subst (λ (r : Cuts). Ordered r (length (c .before .before .before .before .before .before .before .before .args .s .now))) (c .before .fields3 .given .1) (c .before .before .before .fields .ensures .1)
+pallet-at-requires c κs =
+    let at3 = c .before .before .before in
+    let start = at3 .before .before .before .before .before in
+    subst (λ (r : Cuts). Ordered r (length (start .args .s .now))) (c .before .fields3 .given .1) (at3 .fields .ensures .1)
 
 returns-3 : tie.Need-returns-3
 unfolding palletAt
-returns-3 c = let s = c .before .before .before .before .before .before .before .before .args .s .now in ap (palletAt s) (sym (c .before .fields2 .given .1) ∙ c .before .before .before .fields .ensures .0) ∙ said-is s (c .before .before .before .before .before .before .if1 .left) (c .before .before .before .before .if2 .left)
+returns-3 c =
+    let at3 = c .before .before .before in
+    let at4 = at3 .before in
+    let at6 = at4 .before .before in
+    let start = at6 .before .before in
+    let s = start .args .s .now in
+    ap (palletAt s) (sym (c .before .fields2 .given .1) ∙ at3 .fields .ensures .0) ∙ said-is s (at6 .if1 .left) (at4 .if2 .left)
 
 returns-4 : tie.Need-returns-4
 unfolding palletAt
-returns-4 c = let s = c .before .before .before .before .before .before .before .before .before .args .s .now in c .pallet-at .ensures ∙ ap (palletAt s) (sym (c .before .before .fields3 .given .1) ∙ c .before .before .before .before .fields .ensures .0) ∙ said-is s (c .before .before .before .before .before .before .before .if1 .left) (c .before .before .before .before .before .if2 .left)
+returns-4 c =
+    let at2 = c .before .before in
+    let at4 = at2 .before .before in
+    let at5 = at4 .before in
+    let at7 = at5 .before .before in
+    let start = at7 .before .before in
+    let s = start .args .s .now in
+    c .pallet-at .ensures ∙ ap (palletAt s) (sym (at2 .fields3 .given .1) ∙ at4 .fields .ensures .0) ∙ said-is s (at7 .if1 .left) (at5 .if2 .left)
 
 pub said-spec : {M : Type 1} → statement M
 said-spec =

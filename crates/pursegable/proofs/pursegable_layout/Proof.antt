@@ -40,9 +40,9 @@ use denote.Triple.Clauses.{ensured, lasts}
 use denote.Triple.Table.{entered, cited}
 use denote.Triple.Walked.{says, Stays, stay-none, stay-none-slice, gave-slice, walkOf, Walks, ends-at, walked, goes-none, goes-none-slice, goes-gave-slice, walk-meets}
 use Rattle.rules.specs.Call as rules
-use Rattle.sheet.specs.declared.Report.{Report}
-use Rattle.sheet.proofs.Report as D
-use Rattle.sheet.proofs.Report.Laws as D′
+use Rattle.layout.specs.declared.Report.{Report}
+use Rattle.layout.proofs.Report as D
+use Rattle.layout.proofs.Report.Laws as D′
 use Rattle.events.specs.declared.Event.{Event}
 use Rattle.events.specs.Called.{asked, Called}
 use Rattle.events.proofs.Event as T

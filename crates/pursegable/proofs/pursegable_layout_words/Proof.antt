@@ -2,7 +2,7 @@
 -- Assumes nothing.
 use borrow.Author.Needs.{needs}
 use lib.ListN.{length}
-use Rattle.sheet.specs.Called.{given}
+use Rattle.layout.specs.Called.{given}
 use Rattle.pursegable.proofs.Answering.{words-exported}
 use Rattle.pursegable.proofs.pursegable_layout_words.Statement.{statement}
 use Rattle.pursegable.proofs.pursegable_layout_words.Tie as tie

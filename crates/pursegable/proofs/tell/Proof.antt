@@ -15,7 +15,10 @@ same-length : tie.Need-same-length
 same-length c = search needs
 
 returns : tie.Need-returns
-returns c = told-none _ (length (c .before .before .before .before .before .before .args .report .now)) (c .before .before .before .before .before .before .args .r .answer ∷ c .before .before .before .before .before .before .args .r .place .0 ∷ c .before .before .before .before .before .before .args .r .steps ∷ c .before .before .before .before .before .before .args .r .used ∷ c .before .before .before .before .before .before .args .r .marks ∷ []) (c .before .before .before .clear-words .ensures) (c .if1 .taken)
+returns c =
+    let at3 = c .before .before .before in
+    let start = at3 .before .before .before in
+    told-none _ (length (start .args .report .now)) (start .args .r .answer ∷ start .args .r .place .0 ∷ start .args .r .steps ∷ start .args .r .used ∷ start .args .r .marks ∷ []) (at3 .clear-words .ensures) (c .if1 .taken)
 
 slice-write-report : tie.Need-slice-write-report
 slice-write-report c = search needs
@@ -36,7 +39,10 @@ same-length-2 : tie.Need-same-length-2
 same-length-2 c = search needs
 
 returns-2 : tie.Need-returns-2
-returns-2 c = told-set _ (length (c .before .before .before .before .before .before .before .args .report .now)) _ _ _ _ _ (c .before .before .before .before .clear-words .ensures) (c .before .if1 .left)
+returns-2 c =
+    let at4 = c .before .before .before .before in
+    let start = at4 .before .before .before in
+    told-set _ (length (start .args .report .now)) _ _ _ _ _ (at4 .clear-words .ensures) (c .before .if1 .left)
 
 pub tell-spec : {M : Type 1} → statement M
 tell-spec =

@@ -31,14 +31,21 @@ concat-requires : tie.Need-concat-requires
 concat-requires c κs = tt
 
 same-length-3 : tie.Need-same-length-3
-same-length-3 c = c .before .before .concat .kept .1 .0 ∙ c .before .before .before .before .before .before .before .before .before .before .before .before .before .lower .kept .1 .0
+same-length-3 c =
+    let at2 = c .before .before in
+    let at13 = at2 .before .before .before .before .before .before .before .before .before .before .before in
+    at2 .concat .kept .1 .0 ∙ at13 .lower .kept .1 .0
 
 same-length-4 : tie.Need-same-length-4
 same-length-4 c = c .before .before .before .before .before .before .before .before .before .before .before .before .before .lower .kept .1 .1 .0
 
 returns-2 : tie.Need-returns-2
 unfolding belowDoc
-returns-2 c = λ d s i. after (c .before .before .before .before .before .before .before .before .before .before .before .before .before .lower .ensures s) (c .before .before .before .before .before .before .before .made .given .1) (λ b. joins (kept b i) (new b) (kept b (s .hardline)) (c .before .before .concat .ensures))
+returns-2 c =
+    let at2 = c .before .before in
+    let at7 = at2 .before .before .before .before .before in
+    let at13 = at7 .before .before .before .before .before .before in
+    λ d s i. after (at13 .lower .ensures s) (at7 .made .given .1) (λ b. joins (kept b i) (new b) (kept b (s .hardline)) (at2 .concat .ensures))
 
 pub below-spec : {M : Type 1} → statement M
 below-spec =

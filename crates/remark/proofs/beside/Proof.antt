@@ -47,14 +47,24 @@ concat-requires : tie.Need-concat-requires
 concat-requires c κs = tt
 
 same-length-3 : tie.Need-same-length-3
-same-length-3 c = c .before .before .concat .kept .1 .0 ∙ c .before .before .before .before .before .before .before .before .before .before .before .before .before .leaf .kept .1 .0
+same-length-3 c =
+    let at2 = c .before .before in
+    let at13 = at2 .before .before .before .before .before .before .before .before .before .before .before in
+    at2 .concat .kept .1 .0 ∙ at13 .leaf .kept .1 .0
 
 same-length-4 : tie.Need-same-length-4
 same-length-4 c = c .before .before .before .before .before .before .before .before .before .before .before .before .before .leaf .kept .1 .1 .0
 
 returns-2 : tie.Need-returns-2
 unfolding besideDoc
-returns-2 c = λ d s i. let says = c .before .before .before .before .before .before .before .before .before .before .before .before .before .before .before .before .before .before .before .before .before .before .before .before .args .says .now in let is = c .before .before .before .before .before .before .before .before .before .before .before .before .before .before .front .ensures ∙ written-at 256 2 says _ (c .before .before .before .before .before .before .before .before .before .before .before .before .before .before .before .before .before .before .before .put .result) (omega arith) (place-adds (c .before .before .before .before .before .before .before .before .before .before .before .before .before .before .before .before .before .before .before .put .ensures)) ∙ remark-fits says (c .before .before .before .before .before .before .before .before .before .before .before .before .before .before .before .before .before .before .before .before .before .before .before .before .pre) in after (gives refl (ap leafDoc is) (c .before .before .before .before .before .before .before .before .before .before .before .before .before .leaf .ensures)) (c .before .before .before .before .before .before .before .made .given .1) (λ b. joins (kept b i) (new b) (kept b (s .hardline)) (c .before .before .concat .ensures))
+returns-2 c =
+    let at2 = c .before .before in
+    let at7 = at2 .before .before .before .before .before in
+    let at13 = at7 .before .before .before .before .before .before in
+    let at14 = at13 .before in
+    let at19 = at14 .before .before .before .before .before in
+    let start = at19 .before .before .before .before .before in
+    λ d s i. let says = start .args .says .now in let is = at14 .front .ensures ∙ written-at 256 2 says _ (at19 .put .result) (omega arith) (place-adds (at19 .put .ensures)) ∙ remark-fits says (start .pre) in after (gives refl (ap leafDoc is) (at13 .leaf .ensures)) (at7 .made .given .1) (λ b. joins (kept b i) (new b) (kept b (s .hardline)) (at2 .concat .ensures))
 
 pub beside-spec : {M : Type 1} → statement M
 beside-spec =

@@ -24,7 +24,12 @@ same-length-2 : tie.Need-same-length-2
 same-length-2 c = refl
 
 returns : tie.Need-returns
-returns c = λ d s i. gives refl (ended-none d (c .before .before .before .before .before .before .before .before .before .before .before .before .args .line .now) (c .before .before .before .before .before .before .before .before .before .before .before .before .args .from) (c .before .before .before .before .before .before .before .trimmed .result) (c .before .before .before .before .before .before .skip .result) (c .before .before .before .before .before .before .before .trimmed .ensures) (c .before .before .before .before .before .before .skip .ensures) (omega arith)) (appends i (s .hardline) (c .before .before .append .ensures))
+returns c =
+    let at2 = c .before .before in
+    let at6 = at2 .before .before .before .before in
+    let at7 = at6 .before in
+    let start = at7 .before .before .before .before .before in
+    λ d s i. gives refl (ended-none d (start .args .line .now) (start .args .from) (at7 .trimmed .result) (at6 .skip .result) (at7 .trimmed .ensures) (at6 .skip .ensures) (omega arith)) (appends i (s .hardline) (at2 .append .ensures))
 
 sub-remarked : tie.Need-sub-remarked
 sub-remarked c = search needs
@@ -33,7 +38,10 @@ part-remarked-start : tie.Need-part-remarked-start
 part-remarked-start c = search needs
 
 part-remarked-end : tie.Need-part-remarked-end
-part-remarked-end c = omega (arith, trim-within (c .before .before .before .before .before .before .before .before .before .args .line .now), c .before .before .before .before .trimmed .ensures)
+part-remarked-end c =
+    let at4 = c .before .before .before .before in
+    let start = at4 .before .before .before .before .before in
+    omega (arith, trim-within (start .args .line .now), at4 .trimmed .ensures)
 
 remarked-requires : tie.Need-remarked-requires
 remarked-requires c κs = simp (length-take, length-drop) (omega (arith, c .before .before .before .before .before .before .before .before .before .before .pre))
@@ -45,7 +53,12 @@ same-length-4 : tie.Need-same-length-4
 same-length-4 c = c .before .before .before .before .remarked .kept .1 .1 .0
 
 returns-2 : tie.Need-returns-2
-returns-2 c = λ d s i. gives refl (ended-some d (c .before .before .before .before .before .before .before .before .before .before .before .before .before .before .before .args .line .now) (c .before .before .before .before .before .before .before .before .before .before .before .before .before .before .before .args .from) (c .before .before .before .before .before .before .before .before .before .before .trimmed .result) (c .before .before .before .before .before .before .before .before .before .skip .result) (c .before .before .before .before .before .before .before .before .before .before .trimmed .ensures) (c .before .before .before .before .before .before .before .before .before .skip .ensures) (omega arith)) (c .before .before .before .before .remarked .ensures d s i)
+returns-2 c =
+    let at4 = c .before .before .before .before in
+    let at9 = at4 .before .before .before .before .before in
+    let at10 = at9 .before in
+    let start = at10 .before .before .before .before .before in
+    λ d s i. gives refl (ended-some d (start .args .line .now) (start .args .from) (at10 .trimmed .result) (at9 .skip .result) (at10 .trimmed .ensures) (at9 .skip .ensures) (omega arith)) (at4 .remarked .ensures d s i)
 
 pub ended-spec : {M : Type 1} → statement M
 ended-spec =

@@ -34,7 +34,10 @@ enum-told-2 : tie.Need-enum-told-2
 enum-told-2 c = search needs
 
 same-length-3 : tie.Need-same-length-3
-same-length-3 c = c .before .before .before .before .append .kept .1 .0 ∙ c .before .before .before .before .before .before .before .before .before .before .before .before .before .before .filled .kept .1 .0
+same-length-3 c =
+    let at4 = c .before .before .before .before in
+    let at14 = at4 .before .before .before .before .before .before .before .before .before .before in
+    at4 .append .kept .1 .0 ∙ at14 .filled .kept .1 .0
 
 same-length-4 : tie.Need-same-length-4
 same-length-4 c = c .before .before .before .before .before .before .before .before .before .before .before .before .before .before .filled .kept .1 .1 .0
@@ -46,14 +49,26 @@ nest-requires : tie.Need-nest-requires
 nest-requires c κs = tt
 
 same-length-5 : tie.Need-same-length-5
-same-length-5 c = c .before .before .nest .kept .1 .0 ∙ c .before .before .before .before .before .before .before .before .before .before .append .kept .1 .0 ∙ c .before .before .before .before .before .before .before .before .before .before .before .before .before .before .before .before .before .before .before .before .filled .kept .1 .0
+same-length-5 c =
+    let at2 = c .before .before in
+    let at10 = at2 .before .before .before .before .before .before .before .before in
+    let at20 = at10 .before .before .before .before .before .before .before .before .before .before in
+    at2 .nest .kept .1 .0 ∙ at10 .append .kept .1 .0 ∙ at20 .filled .kept .1 .0
 
 same-length-6 : tie.Need-same-length-6
-same-length-6 c = c .before .before .before .before .before .before .before .before .before .before .before .before .before .before .before .before .before .before .before .before .filled .kept .1 .1 .0
+same-length-6 c =
+    let at20 = c .before .before .before .before .before .before .before .before .before .before .before .before .before .before .before .before .before .before .before .before in
+    at20 .filled .kept .1 .1 .0
 
 returns-3 : tie.Need-returns-3
 unfolding lowerDoc
-returns-3 c = λ s. after (c .before .before .before .before .before .before .before .before .before .before .before .before .before .before .before .before .before .before .before .before .filled .ensures s) (c .before .before .before .before .before .before .before .before .before .before .before .before .before .before .made .given .1) (λ b. after (appends (kept b (s .hardline)) (new b) (c .before .before .before .before .before .before .before .before .before .before .append .ensures)) (c .before .before .before .before .before .before .made2 .given .1) (λ q. nests (new q) 4 0 (c .before .before .nest .ensures)))
+returns-3 c =
+    let at2 = c .before .before in
+    let at6 = at2 .before .before .before .before in
+    let at10 = at6 .before .before .before .before in
+    let at14 = at10 .before .before .before .before in
+    let at20 = at14 .before .before .before .before .before .before in
+    λ s. after (at20 .filled .ensures s) (at14 .made .given .1) (λ b. after (appends (kept b (s .hardline)) (new b) (at10 .append .ensures)) (at6 .made2 .given .1) (λ q. nests (new q) 4 0 (at2 .nest .ensures)))
 
 pub lower-spec : {M : Type 1} → statement M
 lower-spec =

@@ -33,10 +33,16 @@ enum-told-2 : tie.Need-enum-told-2
 enum-told-2 c = search needs
 
 same-length-3 : tie.Need-same-length-3
-same-length-3 c = c .before .before .before .before .before .before .below .kept .1 .0 ∙ c .before .before .before .before .before .before .before .before .before .before .before .before .before .before .before .before .beside .kept .1 .0
+same-length-3 c =
+    let at6 = c .before .before .before .before .before .before in
+    let at16 = at6 .before .before .before .before .before .before .before .before .before .before in
+    at6 .below .kept .1 .0 ∙ at16 .beside .kept .1 .0
 
 same-length-4 : tie.Need-same-length-4
-same-length-4 c = c .before .before .before .before .before .before .below .kept .1 .1 .0 ∙ c .before .before .before .before .before .before .before .before .before .before .before .before .before .before .before .before .beside .kept .1 .1 .0
+same-length-4 c =
+    let at6 = c .before .before .before .before .before .before in
+    let at16 = at6 .before .before .before .before .before .before .before .before .before .before in
+    at6 .below .kept .1 .1 .0 ∙ at16 .beside .kept .1 .1 .0
 
 returns-2 : tie.Need-returns-2
 returns-2 c = λ d s i. refused (c .enum-told2 .given .1)
@@ -45,13 +51,26 @@ union-requires : tie.Need-union-requires
 union-requires c κs = tt
 
 same-length-5 : tie.Need-same-length-5
-same-length-5 c = c .before .before .union .kept .1 .0 ∙ c .before .before .before .before .before .before .before .before .before .before .before .before .below .kept .1 .0 ∙ c .before .before .before .before .before .before .before .before .before .before .before .before .before .before .before .before .before .before .before .before .before .before .beside .kept .1 .0
+same-length-5 c =
+    let at2 = c .before .before in
+    let at12 = at2 .before .before .before .before .before .before .before .before .before .before in
+    let at22 = at12 .before .before .before .before .before .before .before .before .before .before in
+    at2 .union .kept .1 .0 ∙ at12 .below .kept .1 .0 ∙ at22 .beside .kept .1 .0
 
 same-length-6 : tie.Need-same-length-6
-same-length-6 c = c .before .before .before .before .before .before .before .before .before .before .before .before .below .kept .1 .1 .0 ∙ c .before .before .before .before .before .before .before .before .before .before .before .before .before .before .before .before .before .before .before .before .before .before .beside .kept .1 .1 .0
+same-length-6 c =
+    let at12 = c .before .before .before .before .before .before .before .before .before .before .before .before in
+    let at22 = at12 .before .before .before .before .before .before .before .before .before .before in
+    at12 .below .kept .1 .1 .0 ∙ at22 .beside .kept .1 .1 .0
 
 returns-3 : tie.Need-returns-3
-returns-3 c = λ d s i. after (c .before .before .before .before .before .before .before .before .before .before .before .before .before .before .before .before .before .before .before .before .before .before .beside .ensures d s i) (c .before .before .before .before .before .before .before .before .before .before .before .before .before .before .before .before .made .given .1) (λ b. after (c .before .before .before .before .before .before .before .before .before .before .before .before .below .ensures d (shares-kept b s) (kept b i)) (c .before .before .before .before .before .before .made2 .given .1) (λ q. unites (kept q (new b)) (new q) (c .before .before .union .ensures)))
+returns-3 c =
+    let at2 = c .before .before in
+    let at6 = at2 .before .before .before .before in
+    let at12 = at6 .before .before .before .before .before .before in
+    let at16 = at12 .before .before .before .before in
+    let at22 = at16 .before .before .before .before .before .before in
+    λ d s i. after (at22 .beside .ensures d s i) (at16 .made .given .1) (λ b. after (at12 .below .ensures d (shares-kept b s) (kept b i)) (at6 .made2 .given .1) (λ q. unites (kept q (new b)) (new q) (at2 .union .ensures)))
 
 pub remarked-spec : {M : Type 1} → statement M
 remarked-spec =

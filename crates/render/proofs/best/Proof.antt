@@ -40,52 +40,206 @@ sub-s : tie.Need-sub-s Inv-loop μ-loop
 sub-s c = omega (arith, c .before .if1 .left)
 
 turn-requires : tie.Need-turn-requires Inv-loop μ-loop
-turn-requires c κs = going-ready _ _ _ _ _ _ _ _ _ _ _ _ _ (c .before .before .before .before .before .before .loop .inv) (c .before .before .before .before .if1 .left)
+turn-requires c κs =
+    let at4 = c .before .before .before .before in
+    let at6 = at4 .before .before in
+    going-ready _ _ _ _ _ _ _ _ _ _ _ _ _ (at6 .loop .inv) (at4 .if1 .left)
 
 enum-known-on : tie.Need-enum-known-on Inv-loop μ-loop
 enum-known-on c = search needs
 
 loop-less : tie.Need-loop-less Inv-loop μ-loop
-loop-less c = going-less _ _ _ _ _ _ _ _ _ _ _ _ _ (c .before .before .before .before .before .before .before .before .before .before .before .before .before .before .before .before .loop .inv) (c .before .before .before .before .before .before .before .before .before .before .before .before .before .before .if1 .left) _ _ _ _ (c .before .before .before .before .before .before .before .before .before .turn .ensures) (c .before .before .before .before .before .before .before .before .before .turn .kept .1 .1 .0) (c .before .before .before .before .before .before .before .before .before .turn .kept .1 .1 .1 .0) (c .before .before .before .before .before .before .before .before .before .turn .kept .1 .1 .1 .1 .0) _ _ (c .before .on .given .1)
+loop-less c =
+    let at9 = c .before .before .before .before .before .before .before .before .before in
+    let at14 = at9 .before .before .before .before .before in
+    let at16 = at14 .before .before in
+    going-less
+    _
+    _
+    _
+    _
+    _
+    _
+    _
+    _
+    _
+    _
+    _
+    _
+    _
+    (at16 .loop .inv)
+    (at14 .if1 .left)
+    _
+    _
+    _
+    _
+    (at9 .turn .ensures)
+    (at9 .turn .kept .1 .1 .0)
+    (at9 .turn .kept .1 .1 .1 .0)
+    (at9 .turn .kept .1 .1 .1 .1 .0)
+    _
+    _
+    (c .before .on .given .1)
 
 loop-again : tie.Need-loop-again Inv-loop μ-loop
-loop-again c = going-on _ _ _ _ _ _ _ _ _ _ _ _ _ (c .before .before .before .before .before .before .before .before .before .before .before .before .before .before .before .before .loop .inv) (c .before .before .before .before .before .before .before .before .before .before .before .before .before .before .if1 .left) _ _ _ _ (c .before .before .before .before .before .before .before .before .before .turn .ensures) (c .before .before .before .before .before .before .before .before .before .turn .kept .1 .1 .0) (c .before .before .before .before .before .before .before .before .before .turn .kept .1 .1 .1 .0) (c .before .before .before .before .before .before .before .before .before .turn .kept .1 .1 .1 .1 .0) _ _ (c .before .on .given .1)
+loop-again c =
+    let at9 = c .before .before .before .before .before .before .before .before .before in
+    let at14 = at9 .before .before .before .before .before in
+    let at16 = at14 .before .before in
+    going-on
+    _
+    _
+    _
+    _
+    _
+    _
+    _
+    _
+    _
+    _
+    _
+    _
+    _
+    (at16 .loop .inv)
+    (at14 .if1 .left)
+    _
+    _
+    _
+    _
+    (at9 .turn .ensures)
+    (at9 .turn .kept .1 .1 .0)
+    (at9 .turn .kept .1 .1 .1 .0)
+    (at9 .turn .kept .1 .1 .1 .1 .0)
+    _
+    _
+    (c .before .on .given .1)
 
 enum-known-on-2 : tie.Need-enum-known-on-2 Inv-loop μ-loop
 enum-known-on-2 c = search needs
 
 cast-t32 : tie.Need-cast-t32 Inv-loop μ-loop
-cast-t32 c = omega (arith, done-small _ _ _ _ _ _ _ _ _ _ _ _ _ (c .before .before .before .before .before .before .before .before .before .before .before .before .before .before .before .before .before .loop .inv) (c .before .before .before .before .before .before .before .before .before .before .before .before .before .before .before .if1 .left) _ _ _ _ (c .before .before .before .before .before .before .before .before .before .before .turn .ensures) (c .before .before .before .before .before .before .before .before .before .before .turn .kept .1 .1 .0) (c .before .before .before .before .before .before .before .before .before .before .turn .kept .1 .1 .1 .0) (c .before .before .before .before .before .before .before .before .before .before .turn .kept .1 .1 .1 .1 .0) _ (c .before .before .on2 .given .1) .0)
+cast-t32 c =
+    let at2 = c .before .before in
+    let at10 = at2 .before .before .before .before .before .before .before .before in
+    let at15 = at10 .before .before .before .before .before in
+    let at17 = at15 .before .before in
+    omega
+    (arith, done-small _ _ _ _ _ _ _ _ _ _ _ _ _ (at17 .loop .inv) (at15 .if1 .left) _ _ _ _ (at10 .turn .ensures) (at10 .turn .kept .1 .1 .0) (at10 .turn .kept .1 .1 .1 .0) (at10 .turn .kept .1 .1 .1 .1 .0) _ (at2 .on2 .given .1) .0)
 
 cast-t33 : tie.Need-cast-t33 Inv-loop μ-loop
-cast-t33 c = omega (arith, done-small _ _ _ _ _ _ _ _ _ _ _ _ _ (c .before .before .before .before .before .before .before .before .before .before .before .before .before .before .before .before .before .before .loop .inv) (c .before .before .before .before .before .before .before .before .before .before .before .before .before .before .before .before .if1 .left) _ _ _ _ (c .before .before .before .before .before .before .before .before .before .before .before .turn .ensures) (c .before .before .before .before .before .before .before .before .before .before .before .turn .kept .1 .1 .0) (c .before .before .before .before .before .before .before .before .before .before .before .turn .kept .1 .1 .1 .0) (c .before .before .before .before .before .before .before .before .before .before .before .turn .kept .1 .1 .1 .1 .0) _ (c .before .before .before .on2 .given .1) .1)
+cast-t33 c =
+    let at3 = c .before .before .before in
+    let at11 = at3 .before .before .before .before .before .before .before .before in
+    let at16 = at11 .before .before .before .before .before in
+    let at18 = at16 .before .before in
+    omega
+    (arith, done-small _ _ _ _ _ _ _ _ _ _ _ _ _ (at18 .loop .inv) (at16 .if1 .left) _ _ _ _ (at11 .turn .ensures) (at11 .turn .kept .1 .1 .0) (at11 .turn .kept .1 .1 .1 .0) (at11 .turn .kept .1 .1 .1 .1 .0) _ (at3 .on2 .given .1) .1)
 
 same-length-4 : tie.Need-same-length-4 Inv-loop μ-loop
-same-length-4 c = c .before .before .before .before .before .before .before .before .before .before .before .turn .kept .1 .1 .0 ∙ c .before .before .before .before .before .before .before .before .before .before .before .before .before .before .before .before .before .before .loop .inv .outs
+same-length-4 c =
+    let at11 = c .before .before .before .before .before .before .before .before .before .before .before in
+    let at18 = at11 .before .before .before .before .before .before .before in
+    at11 .turn .kept .1 .1 .0 ∙ at18 .loop .inv .outs
 
 same-length-5 : tie.Need-same-length-5 Inv-loop μ-loop
-same-length-5 c = c .before .before .before .before .before .before .before .before .before .before .before .turn .kept .1 .1 .1 .0 ∙ c .before .before .before .before .before .before .before .before .before .before .before .before .before .before .before .before .before .before .loop .inv .evs
+same-length-5 c =
+    let at11 = c .before .before .before .before .before .before .before .before .before .before .before in
+    let at18 = at11 .before .before .before .before .before .before .before in
+    at11 .turn .kept .1 .1 .1 .0 ∙ at18 .loop .inv .evs
 
 same-length-6 : tie.Need-same-length-6 Inv-loop μ-loop
-same-length-6 c = c .before .before .before .before .before .before .before .before .before .before .before .turn .kept .1 .1 .1 .1 .0 ∙ c .before .before .before .before .before .before .before .before .before .before .before .before .before .before .before .before .before .before .loop .inv .works
+same-length-6 c =
+    let at11 = c .before .before .before .before .before .before .before .before .before .before .before in
+    let at18 = at11 .before .before .before .before .before .before .before in
+    at11 .turn .kept .1 .1 .1 .1 .0 ∙ at18 .loop .inv .works
 
 returns-2 : tie.Need-returns-2 Inv-loop μ-loop
-returns-2 c = laid-done _ _ _ _ _ _ _ _ _ _ _ _ _ (c .before .before .before .before .before .before .before .before .before .before .before .before .before .before .before .before .before .before .loop .inv) (c .before .before .before .before .before .before .before .before .before .before .before .before .before .before .before .before .if1 .left) _ _ _ _ (c .before .before .before .before .before .before .before .before .before .before .before .turn .ensures) (c .before .before .before .before .before .before .before .before .before .before .before .turn .kept .1 .1 .0) (c .before .before .before .before .before .before .before .before .before .before .before .turn .kept .1 .1 .1 .0) (c .before .before .before .before .before .before .before .before .before .before .before .turn .kept .1 .1 .1 .1 .0) _ (c .before .before .before .on2 .given .1)
+returns-2 c =
+    let at3 = c .before .before .before in
+    let at11 = at3 .before .before .before .before .before .before .before .before in
+    let at16 = at11 .before .before .before .before .before in
+    let at18 = at16 .before .before in
+    laid-done
+    _
+    _
+    _
+    _
+    _
+    _
+    _
+    _
+    _
+    _
+    _
+    _
+    _
+    (at18 .loop .inv)
+    (at16 .if1 .left)
+    _
+    _
+    _
+    _
+    (at11 .turn .ensures)
+    (at11 .turn .kept .1 .1 .0)
+    (at11 .turn .kept .1 .1 .1 .0)
+    (at11 .turn .kept .1 .1 .1 .1 .0)
+    _
+    (at3 .on2 .given .1)
 
 enum-known-answer : tie.Need-enum-known-answer Inv-loop μ-loop
 enum-known-answer c = search needs
 
 same-length-7 : tie.Need-same-length-7 Inv-loop μ-loop
-same-length-7 c = c .before .before .before .before .before .before .before .before .before .turn .kept .1 .1 .0 ∙ c .before .before .before .before .before .before .before .before .before .before .before .before .before .before .before .before .loop .inv .outs
+same-length-7 c =
+    let at9 = c .before .before .before .before .before .before .before .before .before in
+    let at16 = at9 .before .before .before .before .before .before .before in
+    at9 .turn .kept .1 .1 .0 ∙ at16 .loop .inv .outs
 
 same-length-8 : tie.Need-same-length-8 Inv-loop μ-loop
-same-length-8 c = c .before .before .before .before .before .before .before .before .before .turn .kept .1 .1 .1 .0 ∙ c .before .before .before .before .before .before .before .before .before .before .before .before .before .before .before .before .loop .inv .evs
+same-length-8 c =
+    let at9 = c .before .before .before .before .before .before .before .before .before in
+    let at16 = at9 .before .before .before .before .before .before .before in
+    at9 .turn .kept .1 .1 .1 .0 ∙ at16 .loop .inv .evs
 
 same-length-9 : tie.Need-same-length-9 Inv-loop μ-loop
-same-length-9 c = c .before .before .before .before .before .before .before .before .before .turn .kept .1 .1 .1 .1 .0 ∙ c .before .before .before .before .before .before .before .before .before .before .before .before .before .before .before .before .loop .inv .works
+same-length-9 c =
+    let at9 = c .before .before .before .before .before .before .before .before .before in
+    let at16 = at9 .before .before .before .before .before .before .before in
+    at9 .turn .kept .1 .1 .1 .1 .0 ∙ at16 .loop .inv .works
 
 returns-3 : tie.Need-returns-3 Inv-loop μ-loop
-returns-3 c = laid-stop _ _ _ _ _ _ _ _ _ _ _ _ _ (c .before .before .before .before .before .before .before .before .before .before .before .before .before .before .before .before .loop .inv) (c .before .before .before .before .before .before .before .before .before .before .before .before .before .before .if1 .left) _ _ _ _ (c .before .before .before .before .before .before .before .before .before .turn .ensures) (c .before .before .before .before .before .before .before .before .before .turn .kept .1 .1 .0) (c .before .before .before .before .before .before .before .before .before .turn .kept .1 .1 .1 .0) (c .before .before .before .before .before .before .before .before .before .turn .kept .1 .1 .1 .1 .0) _ _ _ (c .before .answer .given .1)
+returns-3 c =
+    let at9 = c .before .before .before .before .before .before .before .before .before in
+    let at14 = at9 .before .before .before .before .before in
+    let at16 = at14 .before .before in
+    laid-stop
+    _
+    _
+    _
+    _
+    _
+    _
+    _
+    _
+    _
+    _
+    _
+    _
+    _
+    (at16 .loop .inv)
+    (at14 .if1 .left)
+    _
+    _
+    _
+    _
+    (at9 .turn .ensures)
+    (at9 .turn .kept .1 .1 .0)
+    (at9 .turn .kept .1 .1 .1 .0)
+    (at9 .turn .kept .1 .1 .1 .1 .0)
+    _
+    _
+    _
+    (c .before .answer .given .1)
 
 pub best-spec : {M : Type 1} → statement M
 best-spec =

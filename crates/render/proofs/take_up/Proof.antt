@@ -24,7 +24,11 @@ hand-at-requires : tie.Need-hand-at-requires
 hand-at-requires c κs = search needs
 
 returns : tie.Need-returns
-returns c = let s = c .before .before .before .before .before .before .before .before in rise-node _ _ _ _ _ (rise-start _ _ _ (s .pre)) (c .before .before .before .before .if1 .taken) _ (c .before .if2 .taken) (c .hand-at .ensures)
+returns c =
+    let at4 = c .before .before .before .before in
+    let at8 = at4 .before .before .before .before in
+    let s = at8 in
+    rise-node _ _ _ _ _ (rise-start _ _ _ (s .pre)) (at4 .if1 .taken) _ (c .before .if2 .taken) (c .hand-at .ensures)
 
 take-up-ends-requires : tie.Need-take-up-ends-requires
 take-up-ends-requires c κs = search needs

@@ -52,7 +52,11 @@ slice-aggregate-lay-out : tie.Need-slice-aggregate-lay-out
 slice-aggregate-lay-out c = sym (length-take-le _ _ (omega arith))
 
 array-share-prefix-text : tie.Need-array-share-prefix-text
-array-share-prefix-text c = omega (arith, array-share-prefix-wide (c .before .before .before .before .before .before), c .before .before .text2 .given, c .before .before .before .before .before .before .before .before .before .before .wide2 .given)
+array-share-prefix-text c =
+    let at2 = c .before .before in
+    let at6 = at2 .before .before .before .before in
+    let at10 = at6 .before .before .before .before in
+    omega (arith, array-share-prefix-wide (at6), at2 .text2 .given, at10 .wide2 .given)
 
 slice-aggregate-lay-out-2 : tie.Need-slice-aggregate-lay-out-2
 slice-aggregate-lay-out-2 c = sym (length-take-le _ _ (omega arith))

@@ -27,7 +27,31 @@ same-length : tie.Need-same-length
 same-length c = search needs
 
 returns : tie.Need-returns
-returns c = let a = c .before .before .before .before .before .before .before .before .before .before .before .before .before .before .before .before .args in field-adds (a .out .now) (a .at) (a .s .now) (a .width) (a .unit .now) (c .before .before .before .before .before .before .before .before .before .before .before .before .part-end .result) (c .before .before .before .before .before .before .before .before .before .before .before .before .part-end .ensures) (c .before .before .before .before .before .before .before .before .before .before .before .missing .result) (c .before .before .before .before .before .before .before .before .before .before .before .missing .ensures) (c .before .before .before .before .before .before .before .before .before .further .result) (c .before .before .before .before .before .before .before .before .before .further .ensures) _ (c .before .before .before .before .before .before .before .front .ensures) (c .before .before .before .before .before .before .put .ensures) (c .before .before .put2 .ensures)
+returns c =
+    let at2 = c .before .before in
+    let at6 = at2 .before .before .before .before in
+    let at7 = at6 .before in
+    let at9 = at7 .before .before in
+    let at11 = at9 .before .before in
+    let at12 = at11 .before in
+    let start = at12 .before .before .before .before in
+    let a = start .args in
+    field-adds
+    (a .out .now)
+    (a .at)
+    (a .s .now)
+    (a .width)
+    (a .unit .now)
+    (at12 .part-end .result)
+    (at12 .part-end .ensures)
+    (at11 .missing .result)
+    (at11 .missing .ensures)
+    (at9 .further .result)
+    (at9 .further .ensures)
+    _
+    (at7 .front .ensures)
+    (at6 .put .ensures)
+    (at2 .put2 .ensures)
 
 pub put-field-spec : {M : Type 1} → statement M
 put-field-spec =

@@ -48,7 +48,20 @@ same-length : tie.Need-same-length
 same-length c = search needs
 
 returns : tie.Need-returns
-returns c = let a = c .before .before .before .before .before .before .before .before .before .before .before .before .before .before .before .before .before .before .before .before .before .before .before .before .args in fields-add (a .out .now) (a .line .now) (a .p) (c .before .before .before .before .before .before .before .before .before .before .before .before .before .before .before .before .before .before .before .before .before .part-end .result) (c .before .before .before .before .before .before .before .before .before .before .before .before .before .before .before .before .before .before .before .before .before .part-end .ensures) _ (c .before .before .before .before .before .before .before .before .before .before .before .before .before .before .before .before .before .before .before .before .front .ensures) (c .before .before .before .before .before .before .before .before .before .before .before .before .before .before .before .before .before .before .missing .result) (c .before .before .before .before .before .before .before .before .before .before .before .before .before .before .before .before .before .before .missing .ensures ∙ ap (λ (k : ℕ). 6 - k) (c .before .before .before .before .before .before .before .before .before .before .before .before .before .before .before .before .before .before .before .columns .ensures)) (c .before .before .before .before .before .before .before .before .before .before .before .before .before .before .before .before .put .ensures) (c .before .before .before .before .before .before .before .before .before .before .before .before .further .result) (c .before .before .before .before .before .before .before .before .before .before .before .before .further .ensures .0) _ (c .before .before .before .before .before .before .before .before .before .before .behind .ensures) _ (c .before .before .before .before .before .before .before .before .put-field .result) (c .before .before .before .before .before .before .before .before .put-field .kept .0) (c .before .before .before .before .before .before .before .before .put-field .ensures .0) _ (c .before .before .before .before .behind2 .ensures) _ (c .before .before .put-field2 .result) (c .before .before .put-field2 .ensures .0)
+returns c =
+    let at2 = c .before .before in
+    let at4 = at2 .before .before in
+    let at8 = at4 .before .before .before .before in
+    let at10 = at8 .before .before in
+    let at12 = at10 .before .before in
+    let at16 = at12 .before .before .before .before in
+    let at18 = at16 .before .before in
+    let at19 = at18 .before in
+    let at20 = at19 .before in
+    let at21 = at20 .before in
+    let start = at21 .before .before .before in
+    let a = start .args in
+    fields-add (a .out .now) (a .line .now) (a .p) (at21 .part-end .result) (at21 .part-end .ensures) _ (at20 .front .ensures) (at18 .missing .result) (at18 .missing .ensures ∙ ap (λ (k : ℕ). 6 - k) (at19 .columns .ensures)) (at16 .put .ensures) (at12 .further .result) (at12 .further .ensures .0) _ (at10 .behind .ensures) _ (at8 .put-field .result) (at8 .put-field .kept .0) (at8 .put-field .ensures .0) _ (at4 .behind2 .ensures) _ (at2 .put-field2 .result) (at2 .put-field2 .ensures .0)
 
 pub put-row-spec : {M : Type 1} → statement M
 put-row-spec =

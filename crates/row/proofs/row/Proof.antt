@@ -43,20 +43,36 @@ returns : tie.Need-returns
 returns c = λ s. refused (c .enum-told .given .1)
 
 ended-requires : tie.Need-ended-requires
-ended-requires c κs = let a = c .before .before .before .before .before .before .before .before .before .before .before .before .before .before .before .before .before .before .before .before .args in row-sound (a .line .now) (a .p) (c .before .before .before .before .before .before .before .before .before .before .before .before .before .before .before .before .before .before .before .before .pre) .short
+ended-requires c κs =
+    let start = c .before .before .before .before .before .before .before .before .before .before .before .before .before .before .before .before .before .before .before .before in
+    let a = start .args in
+    row-sound (a .line .now) (a .p) (start .pre) .short
 
 label-requires : tie.Need-label-requires
 label-requires c κs = tt
 
 same-length-3 : tie.Need-same-length-3
-same-length-3 c = c .before .before .before .before .before .before .ended .kept .1 .0 ∙ c .before .before .before .before .before .before .before .before .before .before .before .before .before .before .before .before .leaf .kept .1 .0
+same-length-3 c =
+    let at6 = c .before .before .before .before .before .before in
+    let at16 = at6 .before .before .before .before .before .before .before .before .before .before in
+    at6 .ended .kept .1 .0 ∙ at16 .leaf .kept .1 .0
 
 same-length-4 : tie.Need-same-length-4
-same-length-4 c = c .before .before .before .before .before .before .ended .kept .1 .1 .0 ∙ c .before .before .before .before .before .before .before .before .before .before .before .before .before .before .before .before .leaf .kept .1 .1 .0
+same-length-4 c =
+    let at6 = c .before .before .before .before .before .before in
+    let at16 = at6 .before .before .before .before .before .before .before .before .before .before in
+    at6 .ended .kept .1 .1 .0 ∙ at16 .leaf .kept .1 .1 .0
 
 returns-2 : tie.Need-returns-2
 unfolding rowDoc
-returns-2 c = λ s. let a = c .before .before .before .before .before .before .before .before .before .before .before .before .before .before .before .before .before .before .before .before .before .before .before .before .before .before .before .args in let is = c .before .before .before .before .before .before .before .before .before .before .before .before .before .before .before .before .before .front .ensures ∙ written-at 64 0 (fields (a .line .now) (a .p)) _ (c .before .before .before .before .before .before .before .before .before .before .before .before .before .before .before .before .before .before .before .before .before .before .put-row .result) (omega arith) (c .before .before .before .before .before .before .before .before .before .before .before .before .before .before .before .before .before .before .before .before .before .before .put-row .ensures) ∙ fields-fit (row-sound (a .line .now) (a .p) (c .before .before .before .before .before .before .before .before .before .before .before .before .before .before .before .before .before .before .before .before .before .before .before .before .before .before .before .pre)) in gives refl (marked-none (c .before .label .result) _ (c .before .label .ensures) _ (c .if1 .taken)) (after (gives refl (ap leafDoc is) (c .before .before .before .before .before .before .before .before .before .before .before .before .before .before .before .before .leaf .ensures)) (c .before .before .before .before .before .before .before .before .before .before .made .given .1) (λ b. c .before .before .before .before .before .before .ended .ensures _ (shares-kept b s) (new b)))
+returns-2 c =
+    let at6 = c .before .before .before .before .before .before in
+    let at10 = at6 .before .before .before .before in
+    let at16 = at10 .before .before .before .before .before .before in
+    let at17 = at16 .before in
+    let at22 = at17 .before .before .before .before .before in
+    let start = at22 .before .before .before .before .before in
+    λ s. let a = start .args in let is = at17 .front .ensures ∙ written-at 64 0 (fields (a .line .now) (a .p)) _ (at22 .put-row .result) (omega arith) (at22 .put-row .ensures) ∙ fields-fit (row-sound (a .line .now) (a .p) (start .pre)) in gives refl (marked-none (c .before .label .result) _ (c .before .label .ensures) _ (c .if1 .taken)) (after (gives refl (ap leafDoc is) (at16 .leaf .ensures)) (at10 .made .given .1) (λ b. at6 .ended .ensures _ (shares-kept b s) (new b)))
 
 enum-known-made-2 : tie.Need-enum-known-made-2
 enum-known-made-2 c = search needs
@@ -65,10 +81,16 @@ enum-told-2 : tie.Need-enum-told-2
 enum-told-2 c = search needs
 
 same-length-5 : tie.Need-same-length-5
-same-length-5 c = c .before .before .before .before .before .before .before .before .ended .kept .1 .0 ∙ c .before .before .before .before .before .before .before .before .before .before .before .before .before .before .before .before .before .before .leaf .kept .1 .0
+same-length-5 c =
+    let at8 = c .before .before .before .before .before .before .before .before in
+    let at18 = at8 .before .before .before .before .before .before .before .before .before .before in
+    at8 .ended .kept .1 .0 ∙ at18 .leaf .kept .1 .0
 
 same-length-6 : tie.Need-same-length-6
-same-length-6 c = c .before .before .before .before .before .before .before .before .ended .kept .1 .1 .0 ∙ c .before .before .before .before .before .before .before .before .before .before .before .before .before .before .before .before .before .before .leaf .kept .1 .1 .0
+same-length-6 c =
+    let at8 = c .before .before .before .before .before .before .before .before in
+    let at18 = at8 .before .before .before .before .before .before .before .before .before .before in
+    at8 .ended .kept .1 .1 .0 ∙ at18 .leaf .kept .1 .1 .0
 
 returns-3 : tie.Need-returns-3
 returns-3 c = λ s. refused (c .enum-told2 .given .1)
@@ -77,14 +99,32 @@ annotate-requires : tie.Need-annotate-requires
 annotate-requires c κs = tt
 
 same-length-7 : tie.Need-same-length-7
-same-length-7 c = c .before .before .annotate .kept .1 .0 ∙ c .before .before .before .before .before .before .before .before .before .before .before .before .before .before .ended .kept .1 .0 ∙ c .before .before .before .before .before .before .before .before .before .before .before .before .before .before .before .before .before .before .before .before .before .before .before .before .leaf .kept .1 .0
+same-length-7 c =
+    let at2 = c .before .before in
+    let at14 = at2 .before .before .before .before .before .before .before .before .before .before .before .before in
+    let at24 = at14 .before .before .before .before .before .before .before .before .before .before in
+    at2 .annotate .kept .1 .0 ∙ at14 .ended .kept .1 .0 ∙ at24 .leaf .kept .1 .0
 
 same-length-8 : tie.Need-same-length-8
-same-length-8 c = c .before .before .before .before .before .before .before .before .before .before .before .before .before .before .ended .kept .1 .1 .0 ∙ c .before .before .before .before .before .before .before .before .before .before .before .before .before .before .before .before .before .before .before .before .before .before .before .before .leaf .kept .1 .1 .0
+same-length-8 c =
+    let at14 = c .before .before .before .before .before .before .before .before .before .before .before .before .before .before in
+    let at24 = at14 .before .before .before .before .before .before .before .before .before .before in
+    at14 .ended .kept .1 .1 .0 ∙ at24 .leaf .kept .1 .1 .0
 
 returns-4 : tie.Need-returns-4
 unfolding rowDoc
-returns-4 c = λ s. let a = c .before .before .before .before .before .before .before .before .before .before .before .before .before .before .before .before .before .before .before .before .before .before .before .before .before .before .before .before .before .before .before .before .before .before .before .args in let is = c .before .before .before .before .before .before .before .before .before .before .before .before .before .before .before .before .before .before .before .before .before .before .before .before .before .front .ensures ∙ written-at 64 0 (fields (a .line .now) (a .p)) _ (c .before .before .before .before .before .before .before .before .before .before .before .before .before .before .before .before .before .before .before .before .before .before .before .before .before .before .before .before .before .before .put-row .result) (omega arith) (c .before .before .before .before .before .before .before .before .before .before .before .before .before .before .before .before .before .before .before .before .before .before .before .before .before .before .before .before .before .before .put-row .ensures) ∙ fields-fit (row-sound (a .line .now) (a .p) (c .before .before .before .before .before .before .before .before .before .before .before .before .before .before .before .before .before .before .before .before .before .before .before .before .before .before .before .before .before .before .before .before .before .before .before .pre)) in gives refl (marked-some (c .before .before .before .before .before .before .before .before .before .label .result) _ (c .before .before .before .before .before .before .before .before .before .label .ensures) _ (c .before .before .before .before .before .before .before .before .if1 .left)) (after (gives refl (ap leafDoc is) (c .before .before .before .before .before .before .before .before .before .before .before .before .before .before .before .before .before .before .before .before .before .before .before .before .leaf .ensures)) (c .before .before .before .before .before .before .before .before .before .before .before .before .before .before .before .before .before .before .made .given .1) (λ b. after (c .before .before .before .before .before .before .before .before .before .before .before .before .before .before .ended .ensures _ (shares-kept b s) (new b)) (c .before .before .before .before .before .before .made2 .given .1) (λ q. annotates (new q) (c .before .before .before .before .before .before .before .before .before .label .result) (c .before .before .annotate .ensures))))
+returns-4 c =
+    let at2 = c .before .before in
+    let at6 = at2 .before .before .before .before in
+    let at8 = at6 .before .before in
+    let at9 = at8 .before in
+    let at14 = at9 .before .before .before .before .before in
+    let at18 = at14 .before .before .before .before in
+    let at24 = at18 .before .before .before .before .before .before in
+    let at25 = at24 .before in
+    let at30 = at25 .before .before .before .before .before in
+    let start = at30 .before .before .before .before .before in
+    λ s. let a = start .args in let is = at25 .front .ensures ∙ written-at 64 0 (fields (a .line .now) (a .p)) _ (at30 .put-row .result) (omega arith) (at30 .put-row .ensures) ∙ fields-fit (row-sound (a .line .now) (a .p) (start .pre)) in gives refl (marked-some (at9 .label .result) _ (at9 .label .ensures) _ (at8 .if1 .left)) (after (gives refl (ap leafDoc is) (at24 .leaf .ensures)) (at18 .made .given .1) (λ b. after (at14 .ended .ensures _ (shares-kept b s) (new b)) (at6 .made2 .given .1) (λ q. annotates (new q) (at9 .label .result) (at2 .annotate .ensures))))
 
 pub row-spec : {M : Type 1} → statement M
 row-spec =

@@ -13,13 +13,17 @@ use Rattle.rows.proofs.add_lines.Statement.{statement}
 use Rattle.rows.proofs.add_lines.Tie as tie
 
 abbrev Inv-loop : tie.InvT-loop
-Inv-loop table₀ text₀ shared input c₀ n₀ line₀ at₀ table text c n line at = (length table ≡ length table₀) × (length text ≡ length text₀) × (line ≤ at) × (line + length (lines (drop at input)) ≡ length (lines input)) × (Valid c₀ table₀ text₀ → Shares c₀ table₀ text₀ shared → Lined shared input at c table text n)
+Inv-loop table₀ text₀ shared input c₀ n₀ line₀ at₀ table text c n line at =
+    (length table ≡ length table₀) × (length text ≡ length text₀) × (line ≤ at) × (line + length (lines (drop at input)) ≡ length (lines input)) × (Valid c₀ table₀ text₀ → Shares c₀ table₀ text₀ shared → Lined shared input at c table text n)
 
 abbrev μ-loop : tie.MeasureT-loop
 μ-loop table₀ text₀ shared input c₀ n₀ line₀ at₀ table text c n line at = length input - at
 
 loop-holds : tie.Need-loop-holds Inv-loop μ-loop
-loop-holds c = let a = c .before .before .before .before .args in (search needs, search needs, omega arith, omega arith, none-lined (a .input .now) (a .c) (a .table .now) (a .text .now) (a .shared))
+loop-holds c =
+    let start = c .before .before .before .before in
+    let a = start .args in
+    (search needs, search needs, omega arith, omega arith, none-lined (a .input .now) (a .c) (a .table .now) (a .text .now) (a .shared))
 
 part-end-requires : tie.Need-part-end-requires Inv-loop μ-loop
 part-end-requires c κs = tt
@@ -31,7 +35,11 @@ part-added-start : tie.Need-part-added-start Inv-loop μ-loop
 part-added-start c = omega (arith, c .before .before .part-end .ensures)
 
 part-added-end : tie.Need-part-added-end Inv-loop μ-loop
-part-added-end c = omega (arith, part-within (c .before .before .before .before .before .before .before .before .before .args .input .now) (c .before .before .before .before .loop .at) 10 (omega arith), c .before .before .part-end .ensures)
+part-added-end c =
+    let at2 = c .before .before in
+    let at4 = at2 .before .before in
+    let start = at4 .before .before .before .before .before in
+    omega (arith, part-within (start .args .input .now) (at4 .loop .at) 10 (omega arith), at2 .part-end .ensures)
 
 added-requires : tie.Need-added-requires Inv-loop μ-loop
 added-requires c κs = tt
@@ -40,19 +48,33 @@ add-line : tie.Need-add-line Inv-loop μ-loop
 add-line c = omega arith
 
 add-at : tie.Need-add-at Inv-loop μ-loop
-add-at c = omega (arith, part-within (c .before .before .before .before .before .before .before .before .before .before .before .before .before .before .before .args .input .now) (c .before .before .before .before .before .before .before .before .before .before .loop .at) 10 (omega arith), c .before .before .before .before .before .before .before .before .part-end .ensures)
+add-at c =
+    let at8 = c .before .before .before .before .before .before .before .before in
+    let at10 = at8 .before .before in
+    let start = at10 .before .before .before .before .before in
+    omega (arith, part-within (start .args .input .now) (at10 .loop .at) 10 (omega arith), at8 .part-end .ensures)
 
 enum-known-made : tie.Need-enum-known-made Inv-loop μ-loop
 enum-known-made c = search needs
 
 same-length : tie.Need-same-length Inv-loop μ-loop
-same-length c = c .before .before .before .before .before .before .before .added .kept .1 .0 ∙ c .before .before .before .before .before .before .before .before .before .before .before .before .before .loop .inv .0
+same-length c =
+    let at7 = c .before .before .before .before .before .before .before in
+    let at13 = at7 .before .before .before .before .before .before in
+    at7 .added .kept .1 .0 ∙ at13 .loop .inv .0
 
 same-length-2 : tie.Need-same-length-2 Inv-loop μ-loop
-same-length-2 c = c .before .before .before .before .before .before .before .added .kept .1 .1 .0 ∙ c .before .before .before .before .before .before .before .before .before .before .before .before .before .loop .inv .1
+same-length-2 c =
+    let at7 = c .before .before .before .before .before .before .before in
+    let at13 = at7 .before .before .before .before .before .before in
+    at7 .added .kept .1 .1 .0 ∙ at13 .loop .inv .1
 
 returns : tie.Need-returns Inv-loop μ-loop
-returns c = λ v s. omega (arith, count-next (c .before .before .before .before .before .before .before .before .before .before .before .before .before .before .before .before .before .before .args .input .now) (c .before .before .before .before .before .before .before .before .before .before .before .before .before .loop .at) (c .before .before .before .before .before .before .before .before .before .before .before .part-end .result) (c .before .before .before .before .before .before .before .before .before .before .before .part-end .ensures) (omega arith), c .before .before .before .before .before .before .before .before .before .before .before .before .before .loop .inv .3)
+returns c =
+    let at11 = c .before .before .before .before .before .before .before .before .before .before .before in
+    let at13 = at11 .before .before in
+    let start = at13 .before .before .before .before .before in
+    λ v s. omega (arith, count-next (start .args .input .now) (at13 .loop .at) (at11 .part-end .result) (at11 .part-end .ensures) (omega arith), at13 .loop .inv .3)
 
 enum-known-made-2 : tie.Need-enum-known-made-2 Inv-loop μ-loop
 enum-known-made-2 c = search needs
@@ -61,7 +83,15 @@ loop-less : tie.Need-loop-less Inv-loop μ-loop
 loop-less c = omega (arith, c .before .before .before .before .before .before .before .before .before .before .before .part-end .ensures)
 
 loop-again : tie.Need-loop-again Inv-loop μ-loop
-loop-again c = let L = c .before .before .before .before .before .before .before .before .before .before .before .before .before .loop in (search needs, search needs, omega (arith, c .before .before .before .before .before .before .before .before .before .before .before .part-end .ensures, L .inv .2), omega (arith, count-next (c .before .before .before .before .before .before .before .before .before .before .before .before .before .before .before .before .before .before .args .input .now) (L .at) (c .before .before .before .before .before .before .before .before .before .before .before .part-end .result) (c .before .before .before .before .before .before .before .before .before .before .before .part-end .ensures) (omega arith), L .inv .3), λ v s. one-lined (L .inv .4 v s) (c .before .before .before .before .before .before .before .before .before .before .before .part-end .result) (c .before .before .before .before .before .before .before .before .before .before .before .part-end .ensures) (omega arith) (c .before .before .before .before .before .before .before .added .ensures) (c .before .made2 .given .1))
+loop-again c =
+    let at7 = c .before .before .before .before .before .before .before in
+    let at11 = at7 .before .before .before .before in
+    let at13 = at11 .before .before in
+    let start = at13 .before .before .before .before .before in
+    let L = at13 .loop in
+    let part-end-result = at11 .part-end .result in
+    let part-end-ensures = at11 .part-end .ensures in
+    (search needs, search needs, omega (arith, at11 .part-end .ensures, L .inv .2), omega (arith, count-next (start .args .input .now) (L .at) part-end-result part-end-ensures (omega arith), L .inv .3), λ v s. one-lined (L .inv .4 v s) part-end-result part-end-ensures (omega arith) (at7 .added .ensures) (c .before .made2 .given .1))
 
 same-length-3 : tie.Need-same-length-3 Inv-loop μ-loop
 same-length-3 c = c .before .loop .inv .0
@@ -70,7 +100,10 @@ same-length-4 : tie.Need-same-length-4 Inv-loop μ-loop
 same-length-4 c = c .before .loop .inv .1
 
 returns-2 : tie.Need-returns-2 Inv-loop μ-loop
-returns-2 c = let L = c .before .loop in λ v s. all-lined (L .inv .4 v s) (omega arith) (L .line) (omega (arith, ap length (no-lines (c .before .before .before .before .before .before .args .input .now) (L .at) (omega arith)), L .inv .3))
+returns-2 c =
+    let start = c .before .before .before .before .before .before in
+    let L = c .before .loop in
+    λ v s. all-lined (L .inv .4 v s) (omega arith) (L .line) (omega (arith, ap length (no-lines (start .args .input .now) (L .at) (omega arith)), L .inv .3))
 
 pub add-lines-spec : {M : Type 1} → statement M
 add-lines-spec =

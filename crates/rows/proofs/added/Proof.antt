@@ -16,7 +16,10 @@ body-end-requires : tie.Need-body-end-requires
 body-end-requires c κs = tt
 
 slice-aggregate-part : tie.Need-slice-aggregate-part
-slice-aggregate-part c = sym (length-take-le _ _ (omega (arith, body-within (c .before .before .before .before .before .before .before .args .line .now), c .before .before .before .body-end .ensures)))
+slice-aggregate-part c =
+    let at3 = c .before .before .before in
+    let start = at3 .before .before .before .before in
+    sym (length-take-le _ _ (omega (arith, body-within (start .args .line .now), at3 .body-end .ensures)))
 
 part-requires : tie.Need-part-requires
 part-requires c κs = tt
@@ -40,14 +43,24 @@ append-requires : tie.Need-append-requires
 append-requires c κs = tt
 
 same-length-3 : tie.Need-same-length-3
-same-length-3 c = c .before .before .append .kept .1 .0 ∙ c .before .before .before .before .before .before .before .before .before .before .before .before .part .kept .1 .0
+same-length-3 c =
+    let at2 = c .before .before in
+    let at12 = at2 .before .before .before .before .before .before .before .before .before .before in
+    at2 .append .kept .1 .0 ∙ at12 .part .kept .1 .0
 
 same-length-4 : tie.Need-same-length-4
 same-length-4 c = c .before .before .before .before .before .before .before .before .before .before .before .before .part .kept .1 .1 .0
 
 returns-2 : tie.Need-returns-2
 unfolding partDoc
-returns-2 c = λ d s i. after (gives refl (ap (λ (n : ℕ). saysDoc (take n (c .before .before .before .before .before .before .before .before .before .before .before .before .before .before .before .before .before .before .before .before .args .line .now)) (parsed (take n (c .before .before .before .before .before .before .before .before .before .before .before .before .before .before .before .before .before .before .before .before .args .line .now)))) (c .before .before .before .before .before .before .before .before .before .before .before .before .before .before .before .before .body-end .ensures)) (c .before .before .before .before .before .before .before .before .before .before .before .before .part .ensures s)) (c .before .before .before .before .before .before .made .given .1) (λ b. appends (kept b i) (new b) (c .before .before .append .ensures))
+returns-2 c =
+    let at2 = c .before .before in
+    let at6 = at2 .before .before .before .before in
+    let at12 = at6 .before .before .before .before .before .before in
+    let at16 = at12 .before .before .before .before in
+    let start = at16 .before .before .before .before in
+    let line-2 = start .args .line .now in
+    λ d s i. after (gives refl (ap (λ (n : ℕ). saysDoc (take n line-2) (parsed (take n line-2))) (at16 .body-end .ensures)) (at12 .part .ensures s)) (at6 .made .given .1) (λ b. appends (kept b i) (new b) (at2 .append .ensures))
 
 pub added-spec : {M : Type 1} → statement M
 added-spec =

@@ -27,13 +27,24 @@ whole-requires : tie.Need-whole-requires
 whole-requires c κs = tt
 
 same-length-3 : tie.Need-same-length-3
-same-length-3 c = c .before .before .before .before .whole .kept .1 .0 ∙ c .before .before .before .before .before .before .before .before .before .before .before .before .before .before .share .kept .0
+same-length-3 c =
+    let at4 = c .before .before .before .before in
+    let at14 = at4 .before .before .before .before .before .before .before .before .before .before in
+    at4 .whole .kept .1 .0 ∙ at14 .share .kept .0
 
 same-length-4 : tie.Need-same-length-4
-same-length-4 c = c .before .before .before .before .whole .kept .1 .1 .0 ∙ c .before .before .before .before .before .before .before .before .before .before .before .before .before .before .share .kept .1 .0
+same-length-4 c =
+    let at4 = c .before .before .before .before in
+    let at14 = at4 .before .before .before .before .before .before .before .before .before .before in
+    at4 .whole .kept .1 .1 .0 ∙ at14 .share .kept .1 .0
 
 returns-2 : tie.Need-returns-2
-returns-2 c = let s = begun _ _ (c .before .before .before .before .before .before .before .before .start .given .1) (c .before .before .before .before .before .before .before .before .before .before .before .before .before .before .share .ensures) in c .before .before .before .before .whole .ensures (s .0) (s .1)
+returns-2 c =
+    let at4 = c .before .before .before .before in
+    let at8 = at4 .before .before .before .before in
+    let at14 = at8 .before .before .before .before .before .before in
+    let s = begun _ _ (at8 .start .given .1) (at14 .share .ensures) in
+    at4 .whole .ensures (s .0) (s .1)
 
 pub build-spec : {M : Type 1} → statement M
 build-spec =

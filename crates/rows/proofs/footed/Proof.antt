@@ -27,13 +27,20 @@ append-requires : tie.Need-append-requires
 append-requires c κs = tt
 
 same-length-3 : tie.Need-same-length-3
-same-length-3 c = c .before .before .append .kept .1 .0 ∙ c .before .before .before .before .before .before .before .before .before .before .before .before .footer .kept .1 .0
+same-length-3 c =
+    let at2 = c .before .before in
+    let at12 = at2 .before .before .before .before .before .before .before .before .before .before in
+    at2 .append .kept .1 .0 ∙ at12 .footer .kept .1 .0
 
 same-length-4 : tie.Need-same-length-4
 same-length-4 c = c .before .before .before .before .before .before .before .before .before .before .before .before .footer .kept .1 .1 .0
 
 returns-2 : tie.Need-returns-2
-returns-2 c = λ d s i. after (c .before .before .before .before .before .before .before .before .before .before .before .before .footer .ensures s) (c .before .before .before .before .before .before .made .given .1) (λ b. appends (kept b i) (new b) (c .before .before .append .ensures))
+returns-2 c =
+    let at2 = c .before .before in
+    let at6 = at2 .before .before .before .before in
+    let at12 = at6 .before .before .before .before .before .before in
+    λ d s i. after (at12 .footer .ensures s) (at6 .made .given .1) (λ b. appends (kept b i) (new b) (at2 .append .ensures))
 
 pub footed-spec : {M : Type 1} → statement M
 footed-spec =

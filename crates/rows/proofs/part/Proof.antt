@@ -43,7 +43,12 @@ same-length-2 c = c .before .before .before .before .row .kept .1 .1 .0
 
 returns : tie.Need-returns
 unfolding saysDoc
-returns c = λ s. gives refl (ap (saysDoc (c .before .before .before .before .before .before .before .before .before .before .before .before .before .before .before .before .args .line .now)) (sym (c .before .before .before .before .before .before .before .before .says .given .1) ∙ c .before .before .before .before .before .before .before .before .before .before .parse .ensures)) (c .before .before .before .before .row .ensures s)
+returns c =
+    let at4 = c .before .before .before .before in
+    let at8 = at4 .before .before .before .before in
+    let at10 = at8 .before .before in
+    let start = at10 .before .before .before .before .before .before in
+    λ s. gives refl (ap (saysDoc (start .args .line .now)) (sym (at8 .says .given .1) ∙ at10 .parse .ensures)) (at4 .row .ensures s)
 
 same-length-3 : tie.Need-same-length-3
 same-length-3 c = c .before .before .before .before .heading .kept .1 .0
@@ -53,15 +58,27 @@ same-length-4 c = c .before .before .before .before .heading .kept .1 .1 .0
 
 returns-2 : tie.Need-returns-2
 unfolding saysDoc
-returns-2 c = λ s. gives refl (ap (λ (l : List ℕ). appendDoc (filledDoc 42 l) hardline) (c .before .before .before .before .before .behind .ensures) ∙ ap (saysDoc (c .before .before .before .before .before .before .before .before .before .before .before .before .before .before .before .before .args .line .now)) (sym (c .before .before .before .before .before .before .before .before .enum-told .given .1) ∙ c .before .before .before .before .before .before .before .before .before .before .parse .ensures)) (c .before .before .before .before .heading .ensures s)
+returns-2 c =
+    let at4 = c .before .before .before .before in
+    let at5 = at4 .before in
+    let at8 = at5 .before .before .before in
+    let at10 = at8 .before .before in
+    let start = at10 .before .before .before .before .before .before in
+    λ s. gives refl (ap (λ (l : List ℕ). appendDoc (filledDoc 42 l) hardline) (at5 .behind .ensures) ∙ ap (saysDoc (start .args .line .now)) (sym (at8 .enum-told .given .1) ∙ at10 .parse .ensures)) (at4 .heading .ensures s)
 
 returns-3 : tie.Need-returns-3
 unfolding saysDoc
-returns-3 c = λ s. gives refl (ap (saysDoc (c .before .before .before .before .before .before .before .before .args .line .now)) (sym (c .enum-told2 .given .1) ∙ c .before .before .parse .ensures)) (given (s .hardline))
+returns-3 c =
+    let at2 = c .before .before in
+    let start = at2 .before .before .before .before .before .before in
+    λ s. gives refl (ap (saysDoc (start .args .line .now)) (sym (c .enum-told2 .given .1) ∙ at2 .parse .ensures)) (given (s .hardline))
 
 returns-4 : tie.Need-returns-4
 unfolding saysDoc
-returns-4 c = λ s. gives refl (ap (saysDoc (c .before .before .before .before .before .before .before .before .args .line .now)) (sym (c .enum-told3 .given .1) ∙ c .before .before .parse .ensures)) (given (s .none))
+returns-4 c =
+    let at2 = c .before .before in
+    let start = at2 .before .before .before .before .before .before in
+    λ s. gives refl (ap (saysDoc (start .args .line .now)) (sym (c .enum-told3 .given .1) ∙ at2 .parse .ensures)) (given (s .none))
 
 pub part-spec : {M : Type 1} → statement M
 part-spec =

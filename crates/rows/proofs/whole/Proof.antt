@@ -32,26 +32,50 @@ same-length-2 : tie.Need-same-length-2
 same-length-2 c = c .before .before .before .before .before .before .before .add-lines .kept .1 .1 .0
 
 returns : tie.Need-returns
-returns c = λ v s. joined (c .before .before .before .before .before .before .before .before .before .before .before .before .before .args .input .now) (c .before .before .before .before .before .before .before .before .before .before .before .before .before .args .shared) _ _ (c .before .lines .given .1) (c .before .before .before .before .before .before .before .add-lines .ensures v s)
+returns c =
+    let at7 = c .before .before .before .before .before .before .before in
+    let start = at7 .before .before .before .before .before .before in
+    λ v s. joined (start .args .input .now) (start .args .shared) _ _ (c .before .lines .given .1) (at7 .add-lines .ensures v s)
 
 same-length-3 : tie.Need-same-length-3
-same-length-3 c = c .before .before .before .before .before .before .before .footed .kept .1 .0 ∙ c .before .before .before .before .before .before .before .before .before .before .before .before .before .before .before .before .before .add-lines .kept .1 .0
+same-length-3 c =
+    let at7 = c .before .before .before .before .before .before .before in
+    let at17 = at7 .before .before .before .before .before .before .before .before .before .before in
+    at7 .footed .kept .1 .0 ∙ at17 .add-lines .kept .1 .0
 
 same-length-4 : tie.Need-same-length-4
-same-length-4 c = c .before .before .before .before .before .before .before .footed .kept .1 .1 .0 ∙ c .before .before .before .before .before .before .before .before .before .before .before .before .before .before .before .before .before .add-lines .kept .1 .1 .0
+same-length-4 c =
+    let at7 = c .before .before .before .before .before .before .before in
+    let at17 = at7 .before .before .before .before .before .before .before .before .before .before in
+    at7 .footed .kept .1 .1 .0 ∙ at17 .add-lines .kept .1 .1 .0
 
 returns-2 : tie.Need-returns-2
-returns-2 c = λ v s. (joined (c .before .before .before .before .before .before .before .before .before .before .before .before .before .before .before .before .before .before .before .before .before .before .before .args .input .now) (c .before .before .before .before .before .before .before .before .before .before .before .before .before .before .before .before .before .before .before .before .before .before .before .args .shared) _ _ (c .before .before .before .before .before .before .before .before .before .before .before .lines2 .given .1) (c .before .before .before .before .before .before .before .before .before .before .before .before .before .before .before .before .before .add-lines .ensures v s)) .3
+returns-2 c =
+    let at11 = c .before .before .before .before .before .before .before .before .before .before .before in
+    let at17 = at11 .before .before .before .before .before .before in
+    let start = at17 .before .before .before .before .before .before in
+    λ v s. (joined (start .args .input .now) (start .args .shared) _ _ (at11 .lines2 .given .1) (at17 .add-lines .ensures v s)) .3
 
 same-length-5 : tie.Need-same-length-5
-same-length-5 c = c .before .before .before .before .before .before .before .footed .kept .1 .0 ∙ c .before .before .before .before .before .before .before .before .before .before .before .before .before .before .before .before .before .add-lines .kept .1 .0
+same-length-5 c =
+    let at7 = c .before .before .before .before .before .before .before in
+    let at17 = at7 .before .before .before .before .before .before .before .before .before .before in
+    at7 .footed .kept .1 .0 ∙ at17 .add-lines .kept .1 .0
 
 same-length-6 : tie.Need-same-length-6
-same-length-6 c = c .before .before .before .before .before .before .before .footed .kept .1 .1 .0 ∙ c .before .before .before .before .before .before .before .before .before .before .before .before .before .before .before .before .before .add-lines .kept .1 .1 .0
+same-length-6 c =
+    let at7 = c .before .before .before .before .before .before .before in
+    let at17 = at7 .before .before .before .before .before .before .before .before .before .before in
+    at7 .footed .kept .1 .1 .0 ∙ at17 .add-lines .kept .1 .1 .0
 
 returns-3 : tie.Need-returns-3
 unfolding sheetDoc
-returns-3 c = λ v s. let j = (joined (c .before .before .before .before .before .before .before .before .before .before .before .before .before .before .before .before .before .before .before .before .before .before .before .args .input .now) (c .before .before .before .before .before .before .before .before .before .before .before .before .before .before .before .before .before .before .before .before .before .before .before .args .shared) _ _ (c .before .before .before .before .before .before .before .before .before .before .before .lines2 .given .1) (c .before .before .before .before .before .before .before .before .before .before .before .before .before .before .before .before .before .add-lines .ensures v s)) in let b = c .before .before .before .before .before .before .before .footed .ensures _ (j .1) (j .2) _ _ (c .before .made2 .given .1) (j .0) in (b .valid, new b)
+returns-3 c =
+    let at7 = c .before .before .before .before .before .before .before in
+    let at11 = at7 .before .before .before .before in
+    let at17 = at11 .before .before .before .before .before .before in
+    let start = at17 .before .before .before .before .before .before in
+    λ v s. let j = (joined (start .args .input .now) (start .args .shared) _ _ (at11 .lines2 .given .1) (at17 .add-lines .ensures v s)) in let b = at7 .footed .ensures _ (j .1) (j .2) _ _ (c .before .made2 .given .1) (j .0) in (b .valid, new b)
 
 pub whole-spec : {M : Type 1} → statement M
 whole-spec =

@@ -26,7 +26,10 @@ part-print-line-start : tie.Need-part-print-line-start Inv-loop μ-loop
 part-print-line-start c = search needs
 
 part-print-line-end : tie.Need-part-print-line-end Inv-loop μ-loop
-part-print-line-end c = omega (arith, part-within (c .before .before .before .before .before .args .out .now) (c .before .before .loop .at) 10 (omega arith), c .part-end .ensures)
+part-print-line-end c =
+    let at2 = c .before .before in
+    let start = at2 .before .before .before in
+    omega (arith, part-within (start .args .out .now) (at2 .loop .at) 10 (omega arith), c .part-end .ensures)
 
 marked-requires : tie.Need-marked-requires Inv-loop μ-loop
 marked-requires c κs = search needs

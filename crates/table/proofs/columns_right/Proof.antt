@@ -4,7 +4,7 @@ use mathlib.Core.Path.{_≡_, sym, ap, _∙_}
 use mathlib.Core.Bool.{Bool, true, false, _&&_}
 use lib.ListN.{length}
 use lib.Dec.{leb}
-use Rattle.utf8.specs.Utf8.{wellFormed}
+use Rattle.buffer.specs.Utf8.{wellFormed}
 use Rattle.table.proofs.Answers.{columns-plain, columns-wide}
 use Rattle.table.proofs.columns_right.Statement.{statement}
 use Rattle.table.proofs.columns_right.Tie as tie

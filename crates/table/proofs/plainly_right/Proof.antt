@@ -1,7 +1,7 @@
 -- `table::plainly_right` meets its contract: the words of a join or a group are right by four tests. Assumes nothing.
 use mathlib.Core.Bool.{_&&_, false≢true}
 use lib.Dec.{eqb, ltb}
-use Rattle.utf8.proofs.Tests.{and-true}
+use Rattle.choice.proofs.Tests.{and-true}
 use borrow.Author.Tests.{ltb-true, eqb-true}
 use Rattle.table.proofs.Answers.{fault-join, fault-group}
 use Rattle.table.proofs.plainly_right.Statement.{statement}

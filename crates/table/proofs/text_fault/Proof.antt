@@ -6,7 +6,7 @@ use mathlib.Core.Bool.{true, false}
 use Prim.Native.Nat.{ℕ, _+_, _-_, _≤_}
 use lib.ListN.{length, take, drop}
 use borrow.Author.Tests.{eq-eqb, ne-eqb}
-use Rattle.utf8.specs.Utf8.{ascii}
+use Rattle.buffer.specs.Utf8.{ascii}
 use Rattle.table.specs.Fault.{columnsRight}
 use Rattle.table.proofs.Answers.{text-outside, text-inside, text-plain}
 use Rattle.table.proofs.text_fault.Statement.{statement}

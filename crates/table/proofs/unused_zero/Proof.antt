@@ -1,7 +1,7 @@
 -- `table::unused_zero` meets its contract: by how many words the kind uses. Assumes nothing.
 use native.Mathlib.Omega.{arith}
 use borrow.Author.Tests.{le-leb, lt-leb, eq-eqb, ne-eqb}
-use Rattle.utf8.proofs.Tests.{and-end, and-false}
+use Rattle.choice.proofs.Tests.{and-end, and-false}
 use Rattle.table.proofs.unused_zero.Statement.{statement}
 use Rattle.table.proofs.unused_zero.Tie as tie
 

@@ -28,13 +28,20 @@ part-line-stands-start : tie.Need-part-line-stands-start Inv-loop μ-loop
 part-line-stands-start c = search needs
 
 part-line-stands-end : tie.Need-part-line-stands-end Inv-loop μ-loop
-part-line-stands-end c = omega (arith, part-within (c .before .before .before .before .args .input .now) (c .before .before .loop .at) 10 (omega arith), c .part-end .ensures)
+part-line-stands-end c =
+    let at2 = c .before .before in
+    let start = at2 .before .before in
+    omega (arith, part-within (start .args .input .now) (at2 .loop .at) 10 (omega arith), c .part-end .ensures)
 
 line-stands-requires : tie.Need-line-stands-requires Inv-loop μ-loop
 line-stands-requires c κs = search needs
 
 add-at : tie.Need-add-at Inv-loop μ-loop
-add-at c = omega (arith, part-within (c .before .before .before .before .before .before .args .input .now) (c .before .before .before .before .loop .at) 10 (omega arith), c .before .before .part-end .ensures)
+add-at c =
+    let at2 = c .before .before in
+    let at4 = at2 .before .before in
+    let start = at4 .before .before in
+    omega (arith, part-within (start .args .input .now) (at4 .loop .at) 10 (omega arith), at2 .part-end .ensures)
 
 enum-told : tie.Need-enum-told Inv-loop μ-loop
 enum-told c = search needs

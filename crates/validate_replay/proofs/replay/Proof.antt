@@ -52,7 +52,10 @@ slice-aggregate-validate : tie.Need-slice-aggregate-validate
 slice-aggregate-validate c = sym (length-take-le _ _ (omega arith))
 
 array-share-prefix-text : tie.Need-array-share-prefix-text
-array-share-prefix-text c = omega (arith, array-share-prefix-wide (c .before .before .before .before .before .before), c .before .before .text2 .given, c .before .before .before .before .before .before .wide2 .given)
+array-share-prefix-text c =
+    let at2 = c .before .before in
+    let at6 = at2 .before .before .before .before in
+    omega (arith, array-share-prefix-wide (at6), at2 .text2 .given, at6 .wide2 .given)
 
 slice-aggregate-validate-2 : tie.Need-slice-aggregate-validate-2
 slice-aggregate-validate-2 c = sym (length-take-le _ _ (omega arith))

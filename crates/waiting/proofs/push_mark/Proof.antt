@@ -15,7 +15,11 @@ same-length : tie.Need-same-length
 same-length c = search needs
 
 returns : tie.Need-returns
-returns c = let s = c .before .before .before .before .before in pushed (s .args .work .now) (s .args .depth) (s .pre .0) (s .pre .1) _ _ 0 2 _ (c .before .before .put-entry .ensures)
+returns c =
+    let at2 = c .before .before in
+    let at5 = at2 .before .before .before in
+    let s = at5 in
+    pushed (s .args .work .now) (s .args .depth) (s .pre .0) (s .pre .1) _ _ 0 2 _ (at2 .put-entry .ensures)
 
 pub push-mark-spec : {M : Type 1} → statement M
 push-mark-spec = tie.close (tie.spec mul-put-entry put-entry-requires same-length returns)

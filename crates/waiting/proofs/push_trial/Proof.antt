@@ -24,7 +24,29 @@ same-length : tie.Need-same-length
 same-length c = search needs
 
 returns : tie.Need-returns
-returns c = let s = c .before .before .before .before .before .before .before .before .before in pushed-trial (s .args .work .now) (s .args .depth) (s .pre .0) (s .pre .1) _ _ _ 1 _ _ _ _ _ _ (c .before .before .before .before .before .before .put-entry .ensures) (c .before .before .put-entry2 .ensures) (c .before .before .before .before .before .before .put-entry .kept .0)
+returns c =
+    let at2 = c .before .before in
+    let at6 = at2 .before .before .before .before in
+    let at9 = at6 .before .before .before in
+    let s = at9 in
+    pushed-trial
+    (s .args .work .now)
+    (s .args .depth)
+    (s .pre .0)
+    (s .pre .1)
+    _
+    _
+    _
+    1
+    _
+    _
+    _
+    _
+    _
+    _
+    (at6 .put-entry .ensures)
+    (at2 .put-entry2 .ensures)
+    (at6 .put-entry .kept .0)
 
 pub push-trial-spec : {M : Type 1} → statement M
 push-trial-spec =

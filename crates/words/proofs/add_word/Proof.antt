@@ -33,7 +33,10 @@ enum-told-2 : tie.Need-enum-told-2
 enum-told-2 c = search needs
 
 same-length-3 : tie.Need-same-length-3
-same-length-3 c = c .before .before .before .before .before .before .leaf .kept .1 .0 ∙ c .before .before .before .before .before .before .before .before .before .before .before .before .before .before .append .kept .1 .0
+same-length-3 c =
+    let at6 = c .before .before .before .before .before .before in
+    let at14 = at6 .before .before .before .before .before .before .before .before in
+    at6 .leaf .kept .1 .0 ∙ at14 .append .kept .1 .0
 
 same-length-4 : tie.Need-same-length-4
 same-length-4 c = c .before .before .before .before .before .before .leaf .kept .1 .1 .0
@@ -45,13 +48,23 @@ append-requires-2 : tie.Need-append-requires-2
 append-requires-2 c κs = tt
 
 same-length-5 : tie.Need-same-length-5
-same-length-5 c = c .before .before .append2 .kept .1 .0 ∙ c .before .before .before .before .before .before .before .before .before .before .before .before .leaf .kept .1 .0 ∙ c .before .before .before .before .before .before .before .before .before .before .before .before .before .before .before .before .before .before .before .before .append .kept .1 .0
+same-length-5 c =
+    let at2 = c .before .before in
+    let at12 = at2 .before .before .before .before .before .before .before .before .before .before in
+    let at20 = at12 .before .before .before .before .before .before .before .before in
+    at2 .append2 .kept .1 .0 ∙ at12 .leaf .kept .1 .0 ∙ at20 .append .kept .1 .0
 
 same-length-6 : tie.Need-same-length-6
 same-length-6 c = c .before .before .before .before .before .before .before .before .before .before .before .before .leaf .kept .1 .1 .0
 
 returns-3 : tie.Need-returns-3
-returns-3 c = λ d e i j. after (appends i j (c .before .before .before .before .before .before .before .before .before .before .before .before .before .before .before .before .before .before .before .before .append .ensures)) (c .before .before .before .before .before .before .before .before .before .before .before .before .before .before .before .before .made .given .1) (λ b. after (c .before .before .before .before .before .before .before .before .before .before .before .before .leaf .ensures) (c .before .before .before .before .before .before .made2 .given .1) (λ w. appends (kept w (new b)) (new w) (c .before .before .append2 .ensures)))
+returns-3 c =
+    let at2 = c .before .before in
+    let at6 = at2 .before .before .before .before in
+    let at12 = at6 .before .before .before .before .before .before in
+    let at16 = at12 .before .before .before .before in
+    let at20 = at16 .before .before .before .before in
+    λ d e i j. after (appends i j (at20 .append .ensures)) (at16 .made .given .1) (λ b. after (at12 .leaf .ensures) (at6 .made2 .given .1) (λ w. appends (kept w (new b)) (new w) (at2 .append2 .ensures)))
 
 pub add-word-spec : {M : Type 1} → statement M
 add-word-spec =

@@ -13,7 +13,8 @@ use Rattle.words.proofs.filled.Statement.{statement}
 use Rattle.words.proofs.filled.Tie as tie
 
 abbrev Inv-loop : tie.InvT-loop
-Inv-loop table₀ text₀ s most softline c₀ n₀ between₀ at₀ table text c n between at = (length table ≡ length table₀) × (length text ≡ length text₀) × Filling c₀ table₀ text₀ n₀ softline s most at c table text n between
+Inv-loop table₀ text₀ s most softline c₀ n₀ between₀ at₀ table text c n between at =
+    (length table ≡ length table₀) × (length text ≡ length text₀) × Filling c₀ table₀ text₀ n₀ softline s most at c table text n between
 
 abbrev μ-loop : tie.MeasureT-loop
 μ-loop table₀ text₀ s most softline c₀ n₀ between₀ at₀ table text c n between at = length s - at
@@ -22,7 +23,10 @@ skip-requires : tie.Need-skip-requires Inv-loop μ-loop
 skip-requires c κs = tt
 
 loop-holds : tie.Need-loop-holds Inv-loop μ-loop
-loop-holds c = let a = c .before .before .before .before .before .before .args in (search needs, search needs, fill-start (a .c) (a .table .now) (a .text .now) (a .shared .none) (a .shared .softline) (a .s .now) (a .most) (c .skip .result) (c .skip .ensures))
+loop-holds c =
+    let start = c .before .before .before .before .before .before in
+    let a = start .args in
+    (search needs, search needs, fill-start (a .c) (a .table .now) (a .text .now) (a .shared .none) (a .shared .softline) (a .s .now) (a .most) (c .skip .result) (c .skip .ensures))
 
 sub-together : tie.Need-sub-together Inv-loop μ-loop
 sub-together c = omega arith
@@ -34,10 +38,22 @@ part-together-end : tie.Need-part-together-end Inv-loop μ-loop
 part-together-end c = omega arith
 
 together-requires : tie.Need-together-requires Inv-loop μ-loop
-together-requires c κs = let s = c .before .before .before .before .before .before .before .before .before .args .s .now in let L = c .before .before .loop in let room : length (take (length s - L .at) (drop (L .at) s)) ≡ length s - L .at = length-take-le (length s - L .at) (drop (L .at) s) (simp length-drop (omega arith)) in omega arith
+together-requires c κs =
+    let at2 = c .before .before in
+    let start = at2 .before .before .before .before .before .before .before in
+    let s = start .args .s .now in
+    let L = at2 .loop in
+    let room : length (take (length s - L .at) (drop (L .at) s)) ≡ length s - L .at = length-take-le (length s - L .at) (drop (L .at) s) (simp length-drop (omega arith)) in
+    omega arith
 
 add-end : tie.Need-add-end Inv-loop μ-loop
-add-end c = let s = c .before .before .before .before .before .before .before .before .before .before .args .s .now in let L = c .before .before .before .loop in let room : length (take (length s - L .at) (drop (L .at) s)) ≡ length s - L .at = length-take-le (length s - L .at) (drop (L .at) s) (simp length-drop (omega arith)) in omega (arith, c .together .ensures .2)
+add-end c =
+    let at3 = c .before .before .before in
+    let start = at3 .before .before .before .before .before .before .before in
+    let s = start .args .s .now in
+    let L = at3 .loop in
+    let room : length (take (length s - L .at) (drop (L .at) s)) ≡ length s - L .at = length-take-le (length s - L .at) (drop (L .at) s) (simp length-drop (omega arith)) in
+    omega (arith, c .together .ensures .2)
 
 sub-add-word : tie.Need-sub-add-word Inv-loop μ-loop
 sub-add-word c = omega arith
@@ -46,7 +62,14 @@ part-add-word-start : tie.Need-part-add-word-start Inv-loop μ-loop
 part-add-word-start c = omega arith
 
 part-add-word-end : tie.Need-part-add-word-end Inv-loop μ-loop
-part-add-word-end c = let s = c .before .before .before .before .before .before .before .before .before .before .before .before .args .s .now in let L = c .before .before .before .before .before .loop in let room : length (take (length s - L .at) (drop (L .at) s)) ≡ length s - L .at = length-take-le (length s - L .at) (drop (L .at) s) (simp length-drop (omega arith)) in omega (arith, c .before .before .together .ensures .2)
+part-add-word-end c =
+    let at2 = c .before .before in
+    let at5 = at2 .before .before .before in
+    let start = at5 .before .before .before .before .before .before .before in
+    let s = start .args .s .now in
+    let L = at5 .loop in
+    let room : length (take (length s - L .at) (drop (L .at) s)) ≡ length s - L .at = length-take-le (length s - L .at) (drop (L .at) s) (simp length-drop (omega arith)) in
+    omega (arith, at2 .together .ensures .2)
 
 add-word-requires : tie.Need-add-word-requires Inv-loop μ-loop
 add-word-requires c κs = tt
@@ -58,10 +81,16 @@ enum-told : tie.Need-enum-told Inv-loop μ-loop
 enum-told c = search needs
 
 same-length : tie.Need-same-length Inv-loop μ-loop
-same-length c = c .before .before .before .before .before .before .add-word .kept .1 .0 ∙ c .before .before .before .before .before .before .before .before .before .before .before .before .before .loop .inv .0
+same-length c =
+    let at6 = c .before .before .before .before .before .before in
+    let at13 = at6 .before .before .before .before .before .before .before in
+    at6 .add-word .kept .1 .0 ∙ at13 .loop .inv .0
 
 same-length-2 : tie.Need-same-length-2 Inv-loop μ-loop
-same-length-2 c = c .before .before .before .before .before .before .add-word .kept .1 .1 .0 ∙ c .before .before .before .before .before .before .before .before .before .before .before .before .before .loop .inv .1
+same-length-2 c =
+    let at6 = c .before .before .before .before .before .before in
+    let at13 = at6 .before .before .before .before .before .before .before in
+    at6 .add-word .kept .1 .1 .0 ∙ at13 .loop .inv .1
 
 returns : tie.Need-returns Inv-loop μ-loop
 returns c = λ i. refused (c .enum-told .given .1)
@@ -70,10 +99,24 @@ skip-requires-2 : tie.Need-skip-requires-2 Inv-loop μ-loop
 skip-requires-2 c κs = tt
 
 loop-less : tie.Need-loop-less Inv-loop μ-loop
-loop-less c = omega (arith, c .before .before .before .before .before .before .before .before .before .before .before .before .together .ensures .1, c .skip2 .ensures)
+loop-less c =
+    let at12 = c .before .before .before .before .before .before .before .before .before .before .before .before in
+    omega (arith, at12 .together .ensures .1, c .skip2 .ensures)
 
 loop-again : tie.Need-loop-again Inv-loop μ-loop
-loop-again c = let L = c .before .before .before .before .before .before .before .before .before .before .before .before .before .before .before .loop in let s = c .before .before .before .before .before .before .before .before .before .before .before .before .before .before .before .before .before .before .before .before .before .before .args .s .now in let most = c .before .before .before .before .before .before .before .before .before .before .before .before .before .before .before .before .before .before .before .before .before .before .args .most in let size = c .before .before .before .before .before .before .before .before .before .before .before .before .together .result in let is : size ≡ together most (drop (L .at) s) = c .before .before .before .before .before .before .before .before .before .before .before .before .together .ensures .0 ∙ ap (together most) (rest-is s (L .at)) in let some : 0 < size = c .before .before .before .before .before .before .before .before .before .before .before .before .together .ensures .1 in (search needs, search needs, fill-next (L .inv .2) size (c .skip2 .result) (omega arith) is some (c .skip2 .ensures) (c .before .before .before .before .before .before .before .before .add-word .ensures) (c .before .before .made .given .1))
+loop-again c =
+    let at2 = c .before .before in
+    let at8 = at2 .before .before .before .before .before .before in
+    let at12 = at8 .before .before .before .before in
+    let at15 = at12 .before .before .before in
+    let start = at15 .before .before .before .before .before .before .before in
+    let L = at15 .loop in
+    let s = start .args .s .now in
+    let most = start .args .most in
+    let size = at12 .together .result in
+    let is : size ≡ together most (drop (L .at) s) = at12 .together .ensures .0 ∙ ap (together most) (rest-is s (L .at)) in
+    let some : 0 < size = at12 .together .ensures .1 in
+    (search needs, search needs, fill-next (L .inv .2) size (c .skip2 .result) (omega arith) is some (c .skip2 .ensures) (at8 .add-word .ensures) (at2 .made .given .1))
 
 same-length-3 : tie.Need-same-length-3 Inv-loop μ-loop
 same-length-3 c = c .before .loop .inv .0

@@ -21,7 +21,11 @@ shared-slice-read-if1 : tie.Need-shared-slice-read-if1 Inv-loop μ-loop
 shared-slice-read-if1 c = omega arith
 
 returns : tie.Need-returns Inv-loop μ-loop
-returns c = let L = c .before .before .before .loop in omega (arith, blank-not (c .before .before .before .before .args .s .now) (L .i) (omega arith) (c .if1 .taken), L .inv .1)
+returns c =
+    let at3 = c .before .before .before in
+    let start = at3 .before in
+    let L = at3 .loop in
+    omega (arith, blank-not (start .args .s .now) (L .i) (omega arith) (c .if1 .taken), L .inv .1)
 
 add-i : tie.Need-add-i Inv-loop μ-loop
 add-i c = omega arith
@@ -30,7 +34,11 @@ loop-less : tie.Need-loop-less Inv-loop μ-loop
 loop-less c = omega arith
 
 loop-again : tie.Need-loop-again Inv-loop μ-loop
-loop-again c = let L = c .before .before .before .loop in (omega arith, omega (arith, blank-next (c .before .before .before .before .args .s .now) (L .i) (omega arith) (c .if1 .left), L .inv .1))
+loop-again c =
+    let at3 = c .before .before .before in
+    let start = at3 .before in
+    let L = at3 .loop in
+    (omega arith, omega (arith, blank-next (start .args .s .now) (L .i) (omega arith) (c .if1 .left), L .inv .1))
 
 returns-2 : tie.Need-returns-2 Inv-loop μ-loop
 returns-2 c = let L = c .before .loop in omega (arith, no-blanks (c .before .before .args .s .now) (L .i) (omega arith), L .inv .1)

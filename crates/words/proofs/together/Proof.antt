@@ -29,7 +29,14 @@ loop-less : tie.Need-loop-less Inv-loop μ-loop
 loop-less c = omega arith
 
 loop-again : tie.Need-loop-again Inv-loop μ-loop
-loop-again c = let L = c .before .before .before .loop in let s = c .before .before .before .before .before .args .s .now in let most = c .before .before .before .before .before .args .most in let b = getD s (L .i) 0 in (omega arith, omega arith, omega arith, omega arith, sym (goes-on most (L .wide) (L .last) s (L .i) (omega arith) (starts-is b ∙ c .if1 .taken)) ∙ L .inv .4)
+loop-again c =
+    let at3 = c .before .before .before in
+    let start = at3 .before .before in
+    let L = at3 .loop in
+    let s = start .args .s .now in
+    let most = start .args .most in
+    let b = getD s (L .i) 0 in
+    (omega arith, omega arith, omega arith, omega arith, sym (goes-on most (L .wide) (L .last) s (L .i) (omega arith) (starts-is b ∙ c .if1 .taken)) ∙ L .inv .4)
 
 last-blank-requires : tie.Need-last-blank-requires Inv-loop μ-loop
 last-blank-requires c κs = tt
@@ -38,10 +45,33 @@ ends-requires : tie.Need-ends-requires Inv-loop μ-loop
 ends-requires c κs = tt
 
 returns : tie.Need-returns Inv-loop μ-loop
-returns c = let L = c .before .before .before .before .before .before .before .loop in let s = c .before .before .before .before .before .before .before .before .before .args .s .now in let most = c .before .before .before .before .before .before .before .before .before .args .most in let b = getD s (L .i) 0 in let g : goesOn b ≡ false = starts-is b ∙ c .before .before .before .before .if1 .left in let last = blank-after b (L .i) (L .last) (omega arith) in (at-blank _ (L .i) (c .if3 .taken) ∙ sym (words-end (c .before .before .before .before .before .before .before .before .before .args .most) (L .wide) (L .last) s (L .i) (omega arith) g (c .before .before .before .last-blank .result) (c .before .before .before .last-blank .ensures) (sym (c .before .if2 .taken) ∙ c .before .before .ends .ensures)) ∙ L .inv .4, omega arith, omega (arith, last, c .before .before .before .last-blank .ensures))
+returns c =
+    let at2 = c .before .before in
+    let at3 = at2 .before in
+    let at4 = at3 .before in
+    let at7 = at4 .before .before .before in
+    let start = at7 .before .before in
+    let L = at7 .loop in
+    let s = start .args .s .now in
+    let most = start .args .most in
+    let b = getD s (L .i) 0 in
+    let g : goesOn b ≡ false = starts-is b ∙ at4 .if1 .left in
+    let last = blank-after b (L .i) (L .last) (omega arith) in
+    (at-blank _ (L .i) (c .if3 .taken) ∙ sym (words-end (start .args .most) (L .wide) (L .last) s (L .i) (omega arith) g (at3 .last-blank .result) (at3 .last-blank .ensures) (sym (c .before .if2 .taken) ∙ at2 .ends .ensures)) ∙ L .inv .4, omega arith, omega (arith, last, at3 .last-blank .ensures))
 
 returns-2 : tie.Need-returns-2 Inv-loop μ-loop
-returns-2 c = let L = c .before .before .before .before .before .before .before .loop in let s = c .before .before .before .before .before .before .before .before .before .args .s .now in let most = c .before .before .before .before .before .before .before .before .before .args .most in let b = getD s (L .i) 0 in let g : goesOn b ≡ false = starts-is b ∙ c .before .before .before .before .if1 .left in (at-none _ (L .i) (c .if3 .left) ∙ sym (words-end (c .before .before .before .before .before .before .before .before .before .args .most) (L .wide) (L .last) s (L .i) (omega arith) g (c .before .before .before .last-blank .result) (c .before .before .before .last-blank .ensures) (sym (c .before .if2 .taken) ∙ c .before .before .ends .ensures)) ∙ L .inv .4, omega arith, omega arith)
+returns-2 c =
+    let at2 = c .before .before in
+    let at3 = at2 .before in
+    let at4 = at3 .before in
+    let at7 = at4 .before .before .before in
+    let start = at7 .before .before in
+    let L = at7 .loop in
+    let s = start .args .s .now in
+    let most = start .args .most in
+    let b = getD s (L .i) 0 in
+    let g : goesOn b ≡ false = starts-is b ∙ at4 .if1 .left in
+    (at-none _ (L .i) (c .if3 .left) ∙ sym (words-end (start .args .most) (L .wide) (L .last) s (L .i) (omega arith) g (at3 .last-blank .result) (at3 .last-blank .ensures) (sym (c .before .if2 .taken) ∙ at2 .ends .ensures)) ∙ L .inv .4, omega arith, omega arith)
 
 add-wide : tie.Need-add-wide Inv-loop μ-loop
 add-wide c = omega arith
@@ -53,10 +83,24 @@ loop-less-2 : tie.Need-loop-less-2 Inv-loop μ-loop
 loop-less-2 c = omega arith
 
 loop-again-2 : tie.Need-loop-again-2 Inv-loop μ-loop
-loop-again-2 c = let L = c .before .before .before .before .before .before .loop in let s = c .before .before .before .before .before .before .before .before .args .s .now in let most = c .before .before .before .before .before .before .before .before .args .most in let b = getD s (L .i) 0 in let g : goesOn b ≡ false = starts-is b ∙ c .before .before .before .if1 .left in let last = blank-after b (L .i) (L .last) (omega arith) in (omega arith, omega arith, omega arith, omega (arith, last, c .before .before .last-blank .ensures), sym (word-on (c .before .before .before .before .before .before .before .before .args .most) (L .wide) (L .last) s (L .i) (omega arith) g (c .before .before .last-blank .result) (c .before .before .last-blank .ensures) (sym (c .if2 .left) ∙ c .before .ends .ensures)) ∙ L .inv .4)
+loop-again-2 c =
+    let at2 = c .before .before in
+    let at3 = at2 .before in
+    let at6 = at3 .before .before .before in
+    let start = at6 .before .before in
+    let L = at6 .loop in
+    let s = start .args .s .now in
+    let most = start .args .most in
+    let b = getD s (L .i) 0 in
+    let g : goesOn b ≡ false = starts-is b ∙ at3 .if1 .left in
+    let last = blank-after b (L .i) (L .last) (omega arith) in
+    (omega arith, omega arith, omega arith, omega (arith, last, at2 .last-blank .ensures), sym (word-on (start .args .most) (L .wide) (L .last) s (L .i) (omega arith) g (at2 .last-blank .result) (at2 .last-blank .ensures) (sym (c .if2 .left) ∙ c .before .ends .ensures)) ∙ L .inv .4)
 
 returns-3 : tie.Need-returns-3 Inv-loop μ-loop
-returns-3 c = let L = c .before .loop in (sym (all-together (c .before .before .before .args .most) (L .wide) (L .last) (c .before .before .before .args .s .now) (L .i) (omega arith)) ∙ L .inv .4, omega arith, omega arith)
+returns-3 c =
+    let start = c .before .before .before in
+    let L = c .before .loop in
+    (sym (all-together (start .args .most) (L .wide) (L .last) (start .args .s .now) (L .i) (omega arith)) ∙ L .inv .4, omega arith, omega arith)
 
 pub together-spec : {M : Type 1} → statement M
 together-spec =

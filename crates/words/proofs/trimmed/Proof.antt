@@ -25,7 +25,11 @@ shared-slice-read-if1 : tie.Need-shared-slice-read-if1 Inv-loop μ-loop
 shared-slice-read-if1 c = omega arith
 
 returns : tie.Need-returns Inv-loop μ-loop
-returns c = let L = c .before .before .before .loop in sym (trim-here (c .before .before .before .before .args .s .now) (L .n) (omega arith) (omega arith) (c .if1 .taken)) ∙ L .inv .1
+returns c =
+    let at3 = c .before .before .before in
+    let start = at3 .before in
+    let L = at3 .loop in
+    sym (trim-here (start .args .s .now) (L .n) (omega arith) (omega arith) (c .if1 .taken)) ∙ L .inv .1
 
 sub-n : tie.Need-sub-n Inv-loop μ-loop
 sub-n c = omega arith
@@ -34,7 +38,11 @@ loop-less : tie.Need-loop-less Inv-loop μ-loop
 loop-less c = omega arith
 
 loop-again : tie.Need-loop-again Inv-loop μ-loop
-loop-again c = let L = c .before .before .before .loop in (omega arith, trim-next (c .before .before .before .before .args .s .now) (L .n) (omega arith) (omega arith) (c .if1 .left) ∙ L .inv .1)
+loop-again c =
+    let at3 = c .before .before .before in
+    let start = at3 .before in
+    let L = at3 .loop in
+    (omega arith, trim-next (start .args .s .now) (L .n) (omega arith) (omega arith) (c .if1 .left) ∙ L .inv .1)
 
 returns-2 : tie.Need-returns-2 Inv-loop μ-loop
 returns-2 c = let L = c .before .loop in trim-none (c .before .before .args .s .now) (L .n) (omega arith) ∙ L .inv .1

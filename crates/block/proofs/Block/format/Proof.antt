@@ -16,7 +16,11 @@ same-length c = search needs
 
 returns : tie.Need-returns
 unfolding formatMade
-returns c = rw (← (c .before .before .before .before .before .sizes-right .ensures), c .before .before .before .before .if1 .taken) (c .before .before .within .ensures)
+returns c =
+    let at2 = c .before .before in
+    let at4 = at2 .before .before in
+    let at5 = at4 .before in
+    rw (← (at5 .sizes-right .ensures), at4 .if1 .taken) (at2 .within .ensures)
 
 returns-2 : tie.Need-returns-2
 unfolding formatMade

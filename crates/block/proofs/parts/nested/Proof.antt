@@ -17,7 +17,15 @@ same-length c = search needs
 
 returns : tie.Need-returns
 unfolding nested
-returns c = rw (c .before .before .before .before .if1 .taken) (ran-made (c .before .before .before .before .before .before .before .before .pre .0) (λ s. nest s (c .before .before .before .before .before .before .before .before .args .n .0) (c .before .before .before .before .before .before .before .before .args .block .amount .0) (c .before .before .before .before .before .before .before .before .args .block .way)) (nest-adds (counted (c .before .before .before .before .before .before .before .before .args .c) (c .before .before .before .before .before .before .before .before .args .table .now) (c .before .before .before .before .before .before .before .before .args .text .now)) (c .before .before .before .before .before .before .before .before .args .n .0) (c .before .before .before .before .before .before .before .before .args .block .amount .0) (c .before .before .before .before .before .before .before .before .args .block .way) (start-node (c .before .before .before .before .before .before .before .before .pre .0) (c .before .before .before .before .before .before .before .before .pre .2))) (lt-ltb _ _ (c .before .before .before .before .before .before .before .before .pre .2)) (c .before .before .before .before .before .before .before .before .pre .1 .amount) (c .before .before .nest .ensures))
+returns c =
+    let at2 = c .before .before in
+    let at4 = at2 .before .before in
+    let start = at4 .before .before .before .before in
+    let block-way = start .args .block .way in
+    let block-amount-0 = start .args .block .amount .0 in
+    rw
+    (at4 .if1 .taken)
+    (ran-made (start .pre .0) (λ s. nest s (start .args .n .0) block-amount-0 block-way) (nest-adds (counted (start .args .c) (start .args .table .now) (start .args .text .now)) (start .args .n .0) block-amount-0 block-way (start-node (start .pre .0) (start .pre .2))) (lt-ltb _ _ (start .pre .2)) (start .pre .1 .amount) (at2 .nest .ensures))
 
 returns-2 : tie.Need-returns-2
 unfolding nested

@@ -16,7 +16,9 @@ abbrev μ-loop : tie.MeasureT-loop
 μ-loop table₀ text block prefixes nests c₀ n₀ i₀ table c n i = i
 
 loop-holds : tie.Need-loop-holds Inv-loop μ-loop
-loop-holds c = (omega arith, wrap-start (c .before .before .before .before .pre .0) (c .before .before .before .before .pre .1) (c .before .before .before .before .args .n) (c .before .before .before .before .pre .2) (c .before .before .before .before .args .prefixes .now) (c .before .before .before .before .args .nests .now) (c .before .before .before .before .pre .3) (c .before .before .before .before .pre .4))
+loop-holds c =
+    let start = c .before .before .before .before in
+    (omega arith, wrap-start (start .pre .0) (start .pre .1) (start .args .n) (start .pre .2) (start .args .prefixes .now) (start .args .nests .now) (start .pre .3) (start .pre .4))
 
 sub-i : tie.Need-sub-i Inv-loop μ-loop
 sub-i c = omega (arith, c .loop-test .taken)
@@ -28,10 +30,20 @@ shared-slice-read-t19 : tie.Need-shared-slice-read-t19 Inv-loop μ-loop
 shared-slice-read-t19 c = omega (arith, c .before .before .loop-test .taken, c .before .before .before .loop .inv .0)
 
 shared-slice-read-wrap : tie.Need-shared-slice-read-wrap Inv-loop μ-loop
-shared-slice-read-wrap c = omega (arith, c .before .before .before .loop-test .taken, c .before .before .before .before .loop .inv .0, c .before .before .before .before .before .before .before .before .before .pre .4)
+shared-slice-read-wrap c =
+    let at3 = c .before .before .before in
+    let at4 = at3 .before in
+    let start = at4 .before .before .before .before .before in
+    omega (arith, at3 .loop-test .taken, at4 .loop .inv .0, start .pre .4)
 
 wrap-requires : tie.Need-wrap-requires Inv-loop μ-loop
-wrap-requires c κs = wrap-asks (c .before .before .before .before .before .before .before .before .before .pre .0) (c .before .before .before .before .before .before .before .before .before .pre .1) (c .before .before .before .before .before .before .before .before .before .args .n) (c .before .before .before .before .before .before .before .before .before .pre .2) (c .before .before .before .before .before .before .before .before .before .args .prefixes .now) (c .before .before .before .before .before .before .before .before .before .args .nests .now) (c .before .before .before .before .before .before .before .before .before .pre .3) (c .before .before .before .before .before .before .before .before .before .pre .4) (c .before .before .before .before .loop .i - 1) (omega (arith, c .before .before .before .loop-test .taken, c .before .before .before .before .loop .inv .0)) (wrap-turn (c .before .before .before .before .before .before .before .before .before .args .c) (c .before .before .before .before .before .before .before .before .before .args .table .now) (c .before .before .before .before .before .before .before .before .before .args .text .now) (c .before .before .before .before .before .before .before .before .before .args .block) (c .before .before .before .before .before .before .before .before .before .args .n) (c .before .before .before .before .before .before .before .before .before .args .prefixes .now) (c .before .before .before .before .before .before .before .before .before .args .nests .now) (c .before .before .before .before .loop .i) (c .before .before .before .loop-test .taken) (c .before .before .before .before .loop .inv .1))
+wrap-requires c κs =
+    let at3 = c .before .before .before in
+    let at4 = at3 .before in
+    let start = at4 .before .before .before .before .before in
+    let nests-2 = start .args .nests .now in
+    let prefixes-2 = start .args .prefixes .now in
+    wrap-asks (start .pre .0) (start .pre .1) (start .args .n) (start .pre .2) prefixes-2 nests-2 (start .pre .3) (start .pre .4) (at4 .loop .i - 1) (omega (arith, at3 .loop-test .taken, at4 .loop .inv .0)) (wrap-turn (start .args .c) (start .args .table .now) (start .args .text .now) (start .args .block) (start .args .n) prefixes-2 nests-2 (at4 .loop .i) (at3 .loop-test .taken) (at4 .loop .inv .1))
 
 enum-known-made : tie.Need-enum-known-made Inv-loop μ-loop
 enum-known-made c = search needs
@@ -40,22 +52,52 @@ enum-told : tie.Need-enum-told Inv-loop μ-loop
 enum-told c = search needs
 
 same-length : tie.Need-same-length Inv-loop μ-loop
-same-length c = c .before .before .before .before .wrap .kept .1 .0 ∙ same-words (c .before .before .before .before .before .before .before .before .before .loop .inv .1 .place .stands)
+same-length c =
+    let at4 = c .before .before .before .before in
+    let at9 = at4 .before .before .before .before .before in
+    at4 .wrap .kept .1 .0 ∙ same-words (at9 .loop .inv .1 .place .stands)
 
 returns : tie.Need-returns Inv-loop μ-loop
-returns c = wrap-stop (c .before .before .before .before .before .before .before .before .before .before .before .before .before .before .pre .0) (c .before .before .before .before .before .before .before .before .before .before .before .before .before .before .pre .1) (c .before .before .before .before .before .before .before .before .before .before .before .before .before .before .args .n) (c .before .before .before .before .before .before .before .before .before .before .before .before .before .before .pre .2) (c .before .before .before .before .before .before .before .before .before .before .before .before .before .before .args .prefixes .now) (c .before .before .before .before .before .before .before .before .before .before .before .before .before .before .args .nests .now) (c .before .before .before .before .before .before .before .before .before .before .before .before .before .before .pre .3) (c .before .before .before .before .before .before .before .before .before .before .before .before .before .before .pre .4) (c .before .before .before .before .before .before .before .before .before .loop .i - 1) (omega (arith, c .before .before .before .before .before .before .before .before .loop-test .taken, c .before .before .before .before .before .before .before .before .before .loop .inv .0)) (wrap-turn (c .before .before .before .before .before .before .before .before .before .before .before .before .before .before .args .c) (c .before .before .before .before .before .before .before .before .before .before .before .before .before .before .args .table .now) (c .before .before .before .before .before .before .before .before .before .before .before .before .before .before .args .text .now) (c .before .before .before .before .before .before .before .before .before .before .before .before .before .before .args .block) (c .before .before .before .before .before .before .before .before .before .before .before .before .before .before .args .n) (c .before .before .before .before .before .before .before .before .before .before .before .before .before .before .args .prefixes .now) (c .before .before .before .before .before .before .before .before .before .before .before .before .before .before .args .nests .now) (c .before .before .before .before .before .before .before .before .before .loop .i) (c .before .before .before .before .before .before .before .before .loop-test .taken) (c .before .before .before .before .before .before .before .before .before .loop .inv .1)) (c .before .before .before .before .wrap .ensures) (c .enum-told .given .1)
+returns c =
+    let at4 = c .before .before .before .before in
+    let at8 = at4 .before .before .before .before in
+    let at9 = at8 .before in
+    let start = at9 .before .before .before .before .before in
+    let nests-2 = start .args .nests .now in
+    let prefixes-2 = start .args .prefixes .now in
+    wrap-stop (start .pre .0) (start .pre .1) (start .args .n) (start .pre .2) prefixes-2 nests-2 (start .pre .3) (start .pre .4) (at9 .loop .i - 1) (omega (arith, at8 .loop-test .taken, at9 .loop .inv .0)) (wrap-turn (start .args .c) (start .args .table .now) (start .args .text .now) (start .args .block) (start .args .n) prefixes-2 nests-2 (at9 .loop .i) (at8 .loop-test .taken) (at9 .loop .inv .1)) (at4 .wrap .ensures) (c .enum-told .given .1)
 
 loop-less : tie.Need-loop-less Inv-loop μ-loop
 loop-less c = omega (arith, c .before .before .before .before .before .before .before .before .before .loop-test .taken)
 
 loop-again : tie.Need-loop-again Inv-loop μ-loop
-loop-again c = (omega (arith, c .before .before .before .before .before .before .before .before .before .before .loop .inv .0), wrap-next (c .before .before .before .before .before .before .before .before .before .before .before .before .before .before .before .pre .0) (c .before .before .before .before .before .before .before .before .before .before .before .before .before .before .before .pre .1) (c .before .before .before .before .before .before .before .before .before .before .before .before .before .before .before .args .n) (c .before .before .before .before .before .before .before .before .before .before .before .before .before .before .before .pre .2) (c .before .before .before .before .before .before .before .before .before .before .before .before .before .before .before .args .prefixes .now) (c .before .before .before .before .before .before .before .before .before .before .before .before .before .before .before .args .nests .now) (c .before .before .before .before .before .before .before .before .before .before .before .before .before .before .before .pre .3) (c .before .before .before .before .before .before .before .before .before .before .before .before .before .before .before .pre .4) (c .before .before .before .before .before .before .before .before .before .before .loop .i - 1) (omega (arith, c .before .before .before .before .before .before .before .before .before .loop-test .taken, c .before .before .before .before .before .before .before .before .before .before .loop .inv .0)) (wrap-turn (c .before .before .before .before .before .before .before .before .before .before .before .before .before .before .before .args .c) (c .before .before .before .before .before .before .before .before .before .before .before .before .before .before .before .args .table .now) (c .before .before .before .before .before .before .before .before .before .before .before .before .before .before .before .args .text .now) (c .before .before .before .before .before .before .before .before .before .before .before .before .before .before .before .args .block) (c .before .before .before .before .before .before .before .before .before .before .before .before .before .before .before .args .n) (c .before .before .before .before .before .before .before .before .before .before .before .before .before .before .before .args .prefixes .now) (c .before .before .before .before .before .before .before .before .before .before .before .before .before .before .before .args .nests .now) (c .before .before .before .before .before .before .before .before .before .before .loop .i) (c .before .before .before .before .before .before .before .before .before .loop-test .taken) (c .before .before .before .before .before .before .before .before .before .before .loop .inv .1)) (c .before .before .before .before .before .wrap .ensures) (c .before .made .given .1))
+loop-again c =
+    let at5 = c .before .before .before .before .before in
+    let at9 = at5 .before .before .before .before in
+    let at10 = at9 .before in
+    let start = at10 .before .before .before .before .before in
+    let nests-2 = start .args .nests .now in
+    let prefixes-2 = start .args .prefixes .now in
+    (omega (arith, at10 .loop .inv .0), wrap-next (start .pre .0) (start .pre .1) (start .args .n) (start .pre .2) prefixes-2 nests-2 (start .pre .3) (start .pre .4) (at10 .loop .i - 1) (omega (arith, at9 .loop-test .taken, at10 .loop .inv .0)) (wrap-turn (start .args .c) (start .args .table .now) (start .args .text .now) (start .args .block) (start .args .n) prefixes-2 nests-2 (at10 .loop .i) (at9 .loop-test .taken) (at10 .loop .inv .1)) (at5 .wrap .ensures) (c .before .made .given .1))
 
 same-length-2 : tie.Need-same-length-2 Inv-loop μ-loop
 same-length-2 c = same-words (c .before .loop .inv .1 .place .stands)
 
 returns-2 : tie.Need-returns-2 Inv-loop μ-loop
-returns-2 c = wrap-end (c .before .before .before .before .before .before .pre .0) (c .before .before .before .before .before .before .pre .1) (c .before .before .before .before .before .before .args .n) (c .before .before .before .before .before .before .pre .2) (c .before .before .before .before .before .before .args .prefixes .now) (c .before .before .before .before .before .before .args .nests .now) (c .before .before .before .before .before .before .pre .3) (c .before .before .before .before .before .before .pre .4) (wrap-zero (c .before .before .before .before .before .before .args .c) (c .before .before .before .before .before .before .args .table .now) (c .before .before .before .before .before .before .args .text .now) (c .before .before .before .before .before .before .args .block) (c .before .before .before .before .before .before .args .n) (c .before .before .before .before .before .before .args .prefixes .now) (c .before .before .before .before .before .before .args .nests .now) (c .before .loop .i) (c .loop-test .left) (c .before .loop .inv .1))
+returns-2 c =
+    let start = c .before .before .before .before .before .before in
+    let nests-2 = start .args .nests .now in
+    let prefixes-2 = start .args .prefixes .now in
+    wrap-end
+    (start .pre .0)
+    (start .pre .1)
+    (start .args .n)
+    (start .pre .2)
+    prefixes-2
+    nests-2
+    (start .pre .3)
+    (start .pre .4)
+    (wrap-zero (start .args .c) (start .args .table .now) (start .args .text .now) (start .args .block) (start .args .n) prefixes-2 nests-2 (c .before .loop .i) (c .loop-test .left) (c .before .loop .inv .1))
 
 pub wraps-spec : {M : Type 1} → statement M
 wraps-spec =

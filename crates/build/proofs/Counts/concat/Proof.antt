@@ -69,7 +69,10 @@ append-requires : tie.Need-append-requires Inv-loop μ-loop
 append-requires c κs = search needs
 
 add-i : tie.Need-add-i Inv-loop μ-loop
-add-i c = omega (arith, c .before .before .before .before .before .before .before .before .loop-test .taken, c .before .before .before .before .before .before .before .before .before .before .before .before .before .before .before .before .before .before .before .before .good)
+add-i c =
+    let at8 = c .before .before .before .before .before .before .before .before in
+    let at20 = at8 .before .before .before .before .before .before .before .before .before .before .before .before in
+    omega (arith, at8 .loop-test .taken, at20 .good)
 
 loop-less : tie.Need-loop-less Inv-loop μ-loop
 loop-less c = search needs

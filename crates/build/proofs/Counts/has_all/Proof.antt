@@ -27,7 +27,11 @@ shared-slice-read-if1 c = search needs
 
 returns : tie.Need-returns Inv-loop μ-loop
 unfolding hasAll
-returns c = sym (c .before .before .before .before .loop .inv .1 ∙ all-not (has (c .before .before .before .before .before .args .self)) (hasAll (c .before .before .before .before .before .args .self)) refl (λ x xs. refl) (c .before .before .before .before .before .args .ns .now) (c .before .before .before .before .loop .i) (c .before .before .before .loop-test .taken) (le-ltb _ _ (c .if1 .taken)))
+returns c =
+    let at3 = c .before .before .before in
+    let at4 = at3 .before in
+    let start = at4 .before in
+    sym (at4 .loop .inv .1 ∙ all-not (has (start .args .self)) (hasAll (start .args .self)) refl (λ x xs. refl) (start .args .ns .now) (at4 .loop .i) (at3 .loop-test .taken) (le-ltb _ _ (c .if1 .taken)))
 
 add-i : tie.Need-add-i Inv-loop μ-loop
 add-i c = search needs
@@ -37,11 +41,17 @@ loop-less c = search needs
 
 loop-again : tie.Need-loop-again Inv-loop μ-loop
 unfolding hasAll
-loop-again c = (omega arith, c .before .before .before .before .loop .inv .1 ∙ all-next (has (c .before .before .before .before .before .args .self)) (hasAll (c .before .before .before .before .before .args .self)) refl (λ x xs. refl) (c .before .before .before .before .before .args .ns .now) (c .before .before .before .before .loop .i) (c .before .before .before .loop-test .taken) (lt-ltb _ _ (c .if1 .left)))
+loop-again c =
+    let at3 = c .before .before .before in
+    let at4 = at3 .before in
+    let start = at4 .before in
+    (omega arith, at4 .loop .inv .1 ∙ all-next (has (start .args .self)) (hasAll (start .args .self)) refl (λ x xs. refl) (start .args .ns .now) (at4 .loop .i) (at3 .loop-test .taken) (lt-ltb _ _ (c .if1 .left)))
 
 returns-2 : tie.Need-returns-2 Inv-loop μ-loop
 unfolding hasAll
-returns-2 c = sym (c .before .loop .inv .1 ∙ all-end (has (c .before .before .args .self)) (hasAll (c .before .before .args .self)) refl (λ x xs. refl) (c .before .before .args .ns .now) (c .before .loop .i) (c .loop-test .left))
+returns-2 c =
+    let start = c .before .before in
+    sym (c .before .loop .inv .1 ∙ all-end (has (start .args .self)) (hasAll (start .args .self)) refl (λ x xs. refl) (start .args .ns .now) (c .before .loop .i) (c .loop-test .left))
 
 pub has-all-spec : {M : Type 1} → statement M
 has-all-spec =

@@ -63,7 +63,10 @@ append-requires : tie.Need-append-requires Inv-loop μ-loop
 append-requires c κs = search needs
 
 mul-t22 : tie.Need-mul-t22 Inv-loop μ-loop
-mul-t22 c = omega (arith, c .before .before .before .before .before .before .before .before .loop-test .taken, c .before .before .before .before .before .before .before .before .before .before .before .before .before .before .before .before .before .before .before .good)
+mul-t22 c =
+    let at8 = c .before .before .before .before .before .before .before .before in
+    let at19 = at8 .before .before .before .before .before .before .before .before .before .before .before in
+    omega (arith, at8 .loop-test .taken, at19 .good)
 
 shared-slice-read-t29 : tie.Need-shared-slice-read-t29 Inv-loop μ-loop
 shared-slice-read-t29 c = search needs
@@ -72,7 +75,10 @@ appended-requires : tie.Need-appended-requires Inv-loop μ-loop
 appended-requires c κs = search needs
 
 add-i : tie.Need-add-i Inv-loop μ-loop
-add-i c = omega (arith, c .before .before .before .before .before .before .before .before .before .before .before .before .loop-test .taken, c .before .before .before .before .before .before .before .before .before .before .before .before .before .before .before .before .before .before .before .before .before .before .before .good)
+add-i c =
+    let at12 = c .before .before .before .before .before .before .before .before .before .before .before .before in
+    let at23 = at12 .before .before .before .before .before .before .before .before .before .before .before in
+    omega (arith, at12 .loop-test .taken, at23 .good)
 
 loop-less : tie.Need-loop-less Inv-loop μ-loop
 loop-less c = search needs

@@ -1,6 +1,6 @@
 -- `space`: a Text of one blank.
 use borrow.Author.Needs.{needs}
-use Rattle.utf8.specs.Utf8.{ascii}
+use Rattle.buffer.specs.Utf8.{ascii}
 use Rattle.table.specs.Fault.{columnsRight}
 use Rattle.build.proofs.Counts.space.Statement.{statement}
 use Rattle.build.proofs.Counts.space.Tie as tie

@@ -7,7 +7,7 @@ use borrow.Author.Tests.{eq-eqb, ne-eqb, le-leb, lt-leb}
 use lib.ListN.{length, take, drop, length-take}
 use lib.Seq.{take-take}
 use Rattle.table.specs.Node.{word}
-use Rattle.utf8.specs.Utf8.{ascii}
+use Rattle.buffer.specs.Utf8.{ascii}
 use Rattle.table.proofs.Unfolded.{part-same}
 use Rattle.build.specs.Sheet.{counted}
 use Rattle.build.specs.Parts.{stays}
@@ -23,11 +23,16 @@ returns c = simp (eq-eqb _ _ (sym (c .before .word .ensures) ∙ c .if1 .taken))
 
 returns-2 : tie.Need-returns-2
 unfolding stays counted
-returns-2 c = simp (ne-eqb _ _ (λ e. c .before .if1 .left (c .before .before .word .ensures ∙ e)), eq-eqb _ _ (sym (c .before .before .word .ensures) ∙ c .if2 .taken))
+returns-2 c =
+    let at2 = c .before .before in
+    simp (ne-eqb _ _ (λ e. c .before .if1 .left (at2 .word .ensures ∙ e)), eq-eqb _ _ (sym (at2 .word .ensures) ∙ c .if2 .taken))
 
 returns-3 : tie.Need-returns-3
 unfolding stays counted
-returns-3 c = simp (ne-eqb _ _ (λ e. c .before .before .if1 .left (c .before .before .before .word .ensures ∙ e)), ne-eqb _ _ (λ e. c .before .if2 .left (c .before .before .before .word .ensures ∙ e)), ne-eqb _ _ (λ e. c .if3 .taken (c .before .before .before .word .ensures ∙ e)))
+returns-3 c =
+    let at2 = c .before .before in
+    let at3 = at2 .before in
+    simp (ne-eqb _ _ (λ e. at2 .if1 .left (at3 .word .ensures ∙ e)), ne-eqb _ _ (λ e. c .before .if2 .left (at3 .word .ensures ∙ e)), ne-eqb _ _ (λ e. c .if3 .taken (at3 .word .ensures ∙ e)))
 
 word-requires-2 : tie.Need-word-requires-2
 word-requires-2 c κs = search needs

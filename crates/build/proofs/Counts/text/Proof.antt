@@ -21,19 +21,47 @@ enum-known-asked : tie.Need-enum-known-asked
 enum-known-asked c = search needs
 
 returns : tie.Need-returns
-returns c = simp (← (c .before .before .before .before .columns-right .ensures)) (text-denied (c .before .before .before .before .before .before .before .before .args .self) (c .before .before .before .before .before .before .before .before .args .table .now) (c .before .before .before .before .before .before .before .before .args .text .now) (c .before .before .before .before .before .before .before .before .args .bytes .now) (c .before .before .before .before .before .before .before .before .args .columns .0) (c .before .before .before .before .columns-right .result) (c .before .before .before .ask .ensures) (c .before .asked .given .1))
+returns c =
+    let at3 = c .before .before .before in
+    let at4 = at3 .before in
+    let start = at4 .before .before .before .before in
+    simp
+    (← (at4 .columns-right .ensures))
+    (text-denied (start .args .self) (start .args .table .now) (start .args .text .now) (start .args .bytes .now) (start .args .columns .0) (at4 .columns-right .result) (at3 .ask .ensures) (c .before .asked .given .1))
 
 enum-told : tie.Need-enum-told
 enum-told c = search needs
 
 add-requires : tie.Need-add-requires
-add-requires c κs = text-node-room (c .before .before .before .before .before .before .before .before .before .args .self) (c .before .before .before .before .before .before .before .before .before .args .table .now) (c .before .before .before .before .before .before .before .before .before .args .text .now) (c .before .before .before .before .before .before .before .before .before .args .bytes .now) (c .before .before .before .before .before .before .before .before .before .args .columns .0) (c .before .before .before .before .before .columns-right .result) (c .before .before .before .before .ask .ensures) (c .before .before .enum-told .given .1)
+add-requires c κs =
+    let at2 = c .before .before in
+    let at4 = at2 .before .before in
+    let at5 = at4 .before in
+    let start = at5 .before .before .before .before in
+    text-node-room
+    (start .args .self)
+    (start .args .table .now)
+    (start .args .text .now)
+    (start .args .bytes .now)
+    (start .args .columns .0)
+    (at5 .columns-right .result)
+    (at4 .ask .ensures)
+    (at2 .enum-told .given .1)
 
 same-length : tie.Need-same-length
 same-length c = search needs
 
 returns-2 : tie.Need-returns-2
-returns-2 c = simp (← (c .before .before .before .before .before .before .before .before .columns-right .ensures)) (text-empty (c .before .before .before .before .before .before .before .before .before .before .before .before .args .self) (c .before .before .before .before .before .before .before .before .before .before .before .before .args .table .now) (c .before .before .before .before .before .before .before .before .before .before .before .before .args .text .now) (c .before .before .before .before .before .before .before .before .before .before .before .before .args .bytes .now) (c .before .before .before .before .before .before .before .before .before .before .before .before .args .columns .0) (c .before .before .before .before .before .before .before .before .columns-right .result) (c .before .before .before .before .before .before .before .ask .ensures) (c .before .before .before .before .before .enum-told .given .1) (c .before .before .before .before .if1 .taken) (c .before .before .add .ensures .0) (c .before .before .add .ensures .1))
+returns-2 c =
+    let at2 = c .before .before in
+    let at4 = at2 .before .before in
+    let at5 = at4 .before in
+    let at7 = at5 .before .before in
+    let at8 = at7 .before in
+    let start = at8 .before .before .before .before in
+    simp
+    (← (at8 .columns-right .ensures))
+    (text-empty (start .args .self) (start .args .table .now) (start .args .text .now) (start .args .bytes .now) (start .args .columns .0) (at8 .columns-right .result) (at7 .ask .ensures) (at5 .enum-told .given .1) (at4 .if1 .taken) (at2 .add .ensures .0) (at2 .add .ensures .1))
 
 cast-copy-bytes : tie.Need-cast-copy-bytes
 cast-copy-bytes c = search needs
@@ -59,7 +87,20 @@ cast-add c =
     omega arith
 
 add-requires-2 : tie.Need-add-requires-2
-add-requires-2 c κs = text-node-room (c .before .before .before .before .before .before .before .before .before .before .before .before .before .args .self) (c .before .before .before .before .before .before .before .before .before .before .before .before .before .args .table .now) (c .before .before .before .before .before .before .before .before .before .before .before .before .before .args .text .now) (c .before .before .before .before .before .before .before .before .before .before .before .before .before .args .bytes .now) (c .before .before .before .before .before .before .before .before .before .before .before .before .before .args .columns .0) (c .before .before .before .before .before .before .before .before .before .columns-right .result) (c .before .before .before .before .before .before .before .before .ask .ensures) (c .before .before .before .before .before .before .enum-told .given .1)
+add-requires-2 c κs =
+    let at6 = c .before .before .before .before .before .before in
+    let at8 = at6 .before .before in
+    let at9 = at8 .before in
+    let start = at9 .before .before .before .before in
+    text-node-room
+    (start .args .self)
+    (start .args .table .now)
+    (start .args .text .now)
+    (start .args .bytes .now)
+    (start .args .columns .0)
+    (at9 .columns-right .result)
+    (at8 .ask .ensures)
+    (at6 .enum-told .given .1)
 
 same-length-2 : tie.Need-same-length-2
 same-length-2 c = search needs

@@ -18,10 +18,14 @@ add-at : tie.Need-add-at
 add-at c = search needs
 
 returns : tie.Need-returns
-returns c = word-out (c .before .before .args .table .now) (c .before .before .args .self .nodes * 4) (c .before .before .args .n .0 * 4 + c .before .before .args .i) (omega arith)
+returns c =
+    let start = c .before .before in
+    word-out (start .args .table .now) (start .args .self .nodes * 4) (start .args .n .0 * 4 + start .args .i) (omega arith)
 
 returns-2 : tie.Need-returns-2
-returns-2 c = word-past (c .before .before .before .args .table .now) (c .before .before .before .args .self .nodes * 4) (c .before .before .before .args .n .0 * 4 + c .before .before .before .args .i) (c .if2 .taken)
+returns-2 c =
+    let start = c .before .before .before in
+    word-past (start .args .table .now) (start .args .self .nodes * 4) (start .args .n .0 * 4 + start .args .i) (c .if2 .taken)
 
 mul-result : tie.Need-mul-result
 mul-result c = search needs
@@ -30,7 +34,9 @@ shared-slice-read-result : tie.Need-shared-slice-read-result
 shared-slice-read-result c = search needs
 
 returns-3 : tie.Need-returns-3
-returns-3 c = sym (getD-take (c .before .before .before .before .args .self .nodes * 4) (c .before .before .before .before .args .table .now) (c .before .before .before .before .args .n .0 * 4 + c .before .before .before .before .args .i) 0 (omega arith))
+returns-3 c =
+    let start = c .before .before .before .before in
+    sym (getD-take (start .args .self .nodes * 4) (start .args .table .now) (start .args .n .0 * 4 + start .args .i) 0 (omega arith))
 
 pub word-spec : {M : Type 1} → statement M
 word-spec =

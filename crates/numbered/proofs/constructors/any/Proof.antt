@@ -17,7 +17,11 @@ same-length-2 c = search needs
 
 returns : tie.Need-returns
 unfolding anyMade
-returns c = any-at _ (c .before .before .before .before .before .before .before .before .before .before .args .a) (c .before .before .before .before .before .before .before .before .before .before .args .b) (c .before .before .before .before .before .before .before .before .before .before .args .d) _ _ _ 11 _ (c .before .before .before .before .before .before .before .match .keys1) (c .before .before .before .before .space .ensures)
+returns c =
+    let at4 = c .before .before .before .before in
+    let at7 = at4 .before .before .before in
+    let start = at7 .before .before .before in
+    any-at _ (start .args .a) (start .args .b) (start .args .d) _ _ _ 11 _ (at7 .match .keys1) (at4 .space .ensures)
 
 line-requires : tie.Need-line-requires
 line-requires c κs = search needs
@@ -30,7 +34,11 @@ same-length-4 c = search needs
 
 returns-2 : tie.Need-returns-2
 unfolding anyMade
-returns-2 c = any-at _ (c .before .before .before .before .before .before .before .before .before .before .args .a) (c .before .before .before .before .before .before .before .before .before .before .args .b) (c .before .before .before .before .before .before .before .before .before .before .args .d) _ _ _ 12 _ (c .before .before .before .before .before .before .before .match .keys2) (c .before .before .before .before .line .ensures)
+returns-2 c =
+    let at4 = c .before .before .before .before in
+    let at7 = at4 .before .before .before in
+    let start = at7 .before .before .before in
+    any-at _ (start .args .a) (start .args .b) (start .args .d) _ _ _ 12 _ (at7 .match .keys2) (at4 .line .ensures)
 
 softline-requires : tie.Need-softline-requires
 softline-requires c κs = search needs
@@ -43,7 +51,11 @@ same-length-6 c = search needs
 
 returns-3 : tie.Need-returns-3
 unfolding anyMade
-returns-3 c = any-at _ (c .before .before .before .before .before .before .before .before .before .before .args .a) (c .before .before .before .before .before .before .before .before .before .before .args .b) (c .before .before .before .before .before .before .before .before .before .before .args .d) _ _ _ 14 _ (c .before .before .before .before .before .before .before .match .keys3) (c .before .before .before .before .softline .ensures)
+returns-3 c =
+    let at4 = c .before .before .before .before in
+    let at7 = at4 .before .before .before in
+    let start = at7 .before .before .before in
+    any-at _ (start .args .a) (start .args .b) (start .args .d) _ _ _ 14 _ (at7 .match .keys3) (at4 .softline .ensures)
 
 indent-requires : tie.Need-indent-requires
 indent-requires c κs = search needs
@@ -56,7 +68,11 @@ same-length-8 c = search needs
 
 returns-4 : tie.Need-returns-4
 unfolding anyMade
-returns-4 c = any-at _ (c .before .before .before .before .before .before .before .before .before .before .args .a) (c .before .before .before .before .before .before .before .before .before .before .args .b) (c .before .before .before .before .before .before .before .before .before .before .args .d) _ _ _ 17 _ (c .before .before .before .before .before .before .before .match .keys4) (c .before .before .before .before .indent .ensures)
+returns-4 c =
+    let at4 = c .before .before .before .before in
+    let at7 = at4 .before .before .before in
+    let start = at7 .before .before .before in
+    any-at _ (start .args .a) (start .args .b) (start .args .d) _ _ _ 17 _ (at7 .match .keys4) (at4 .indent .ensures)
 
 reading-requires : tie.Need-reading-requires
 reading-requires c κs = search needs
@@ -68,7 +84,11 @@ same-length-10 : tie.Need-same-length-10
 same-length-10 c = search needs
 
 returns-5 : tie.Need-returns-5
-returns-5 c = let h = c .before .before .before .before .before .match .rest in any-rest _ _ _ _ _ _ _ _ (h .0 .0 .0 .1) (h .0 .0 .1) (h .0 .1) (h .1) (c .before .before .reading .ensures)
+returns-5 c =
+    let at2 = c .before .before in
+    let at5 = at2 .before .before .before in
+    let h = at5 .match .rest in
+    any-rest _ _ _ _ _ _ _ _ (h .0 .0 .0 .1) (h .0 .0 .1) (h .0 .1) (h .1) (at2 .reading .ensures)
 
 pub any-spec : {M : Type 1} → statement M
 any-spec =

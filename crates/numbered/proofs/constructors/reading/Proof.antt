@@ -14,7 +14,11 @@ same-length c = search needs
 
 returns : tie.Need-returns
 unfolding readingMade
-returns c = reading-at _ (c .before .before .before .before .before .before .before .args .a) (c .before .before .before .before .before .before .before .args .b) (c .before .before .before .before .before .before .before .args .d) _ _ _ 0 _ (c .before .before .before .before .match .keys1) (c .before .before .nil .ensures)
+returns c =
+    let at2 = c .before .before in
+    let at4 = at2 .before .before in
+    let start = at4 .before .before .before in
+    reading-at _ (start .args .a) (start .args .b) (start .args .d) _ _ _ 0 _ (at4 .match .keys1) (at2 .nil .ensures)
 
 append-requires : tie.Need-append-requires
 append-requires c κs = search needs
@@ -24,7 +28,11 @@ same-length-2 c = search needs
 
 returns-2 : tie.Need-returns-2
 unfolding readingMade
-returns-2 c = reading-at _ (c .before .before .before .before .before .before .before .args .a) (c .before .before .before .before .before .before .before .args .b) (c .before .before .before .before .before .before .before .args .d) _ _ _ 1 _ (c .before .before .before .before .match .keys2) (c .before .before .append .ensures)
+returns-2 c =
+    let at2 = c .before .before in
+    let at4 = at2 .before .before in
+    let start = at4 .before .before .before in
+    reading-at _ (start .args .a) (start .args .b) (start .args .d) _ _ _ 1 _ (at4 .match .keys2) (at2 .append .ensures)
 
 group-requires : tie.Need-group-requires
 group-requires c κs = search needs
@@ -34,7 +42,11 @@ same-length-3 c = search needs
 
 returns-3 : tie.Need-returns-3
 unfolding readingMade
-returns-3 c = reading-at _ (c .before .before .before .before .before .before .before .args .a) (c .before .before .before .before .before .before .before .args .b) (c .before .before .before .before .before .before .before .args .d) _ _ _ 2 _ (c .before .before .before .before .match .keys3) (c .before .before .group .ensures)
+returns-3 c =
+    let at2 = c .before .before in
+    let at4 = at2 .before .before in
+    let start = at4 .before .before .before in
+    reading-at _ (start .args .a) (start .args .b) (start .args .d) _ _ _ 2 _ (at4 .match .keys3) (at2 .group .ensures)
 
 flat-alt-requires : tie.Need-flat-alt-requires
 flat-alt-requires c κs = search needs
@@ -44,7 +56,11 @@ same-length-4 c = search needs
 
 returns-4 : tie.Need-returns-4
 unfolding readingMade
-returns-4 c = reading-at _ (c .before .before .before .before .before .before .before .args .a) (c .before .before .before .before .before .before .before .args .b) (c .before .before .before .before .before .before .before .args .d) _ _ _ 3 _ (c .before .before .before .before .match .keys4) (c .before .before .flat-alt .ensures)
+returns-4 c =
+    let at2 = c .before .before in
+    let at4 = at2 .before .before in
+    let start = at4 .before .before .before in
+    reading-at _ (start .args .a) (start .args .b) (start .args .d) _ _ _ 3 _ (at4 .match .keys4) (at2 .flat-alt .ensures)
 
 nest-requires : tie.Need-nest-requires
 nest-requires c κs = search needs
@@ -54,7 +70,11 @@ same-length-5 c = search needs
 
 returns-5 : tie.Need-returns-5
 unfolding readingMade
-returns-5 c = reading-at _ (c .before .before .before .before .before .before .before .args .a) (c .before .before .before .before .before .before .before .args .b) (c .before .before .before .before .before .before .before .args .d) _ _ _ 4 _ (c .before .before .before .before .match .keys5) (c .before .before .nest .ensures)
+returns-5 c =
+    let at2 = c .before .before in
+    let at4 = at2 .before .before in
+    let start = at4 .before .before .before in
+    reading-at _ (start .args .a) (start .args .b) (start .args .d) _ _ _ 4 _ (at4 .match .keys5) (at2 .nest .ensures)
 
 hardline-requires : tie.Need-hardline-requires
 hardline-requires c κs = search needs
@@ -64,7 +84,11 @@ same-length-6 c = search needs
 
 returns-6 : tie.Need-returns-6
 unfolding readingMade
-returns-6 c = reading-at _ (c .before .before .before .before .before .before .before .args .a) (c .before .before .before .before .before .before .before .args .b) (c .before .before .before .before .before .before .before .args .d) _ _ _ 5 _ (c .before .before .before .before .match .keys6) (c .before .before .hardline .ensures)
+returns-6 c =
+    let at2 = c .before .before in
+    let at4 = at2 .before .before in
+    let start = at4 .before .before .before in
+    reading-at _ (start .args .a) (start .args .b) (start .args .d) _ _ _ 5 _ (at4 .match .keys6) (at2 .hardline .ensures)
 
 annotate-requires : tie.Need-annotate-requires
 annotate-requires c κs = search needs
@@ -74,7 +98,11 @@ same-length-7 c = search needs
 
 returns-7 : tie.Need-returns-7
 unfolding readingMade
-returns-7 c = reading-at _ (c .before .before .before .before .before .before .before .args .a) (c .before .before .before .before .before .before .before .args .b) (c .before .before .before .before .before .before .before .args .d) _ _ _ 7 _ (c .before .before .before .before .match .keys7) (c .before .before .annotate .ensures)
+returns-7 c =
+    let at2 = c .before .before in
+    let at4 = at2 .before .before in
+    let start = at4 .before .before .before in
+    reading-at _ (start .args .a) (start .args .b) (start .args .d) _ _ _ 7 _ (at4 .match .keys7) (at2 .annotate .ensures)
 
 union-requires : tie.Need-union-requires
 union-requires c κs = search needs
@@ -84,7 +112,11 @@ same-length-8 c = search needs
 
 returns-8 : tie.Need-returns-8
 unfolding readingMade
-returns-8 c = reading-at _ (c .before .before .before .before .before .before .before .args .a) (c .before .before .before .before .before .before .before .args .b) (c .before .before .before .before .before .before .before .args .d) _ _ _ 8 _ (c .before .before .before .before .match .keys8) (c .before .before .union .ensures)
+returns-8 c =
+    let at2 = c .before .before in
+    let at4 = at2 .before .before in
+    let start = at4 .before .before .before in
+    reading-at _ (start .args .a) (start .args .b) (start .args .d) _ _ _ 8 _ (at4 .match .keys8) (at2 .union .ensures)
 
 align-requires : tie.Need-align-requires
 align-requires c κs = search needs
@@ -94,7 +126,11 @@ same-length-9 c = search needs
 
 returns-9 : tie.Need-returns-9
 unfolding readingMade
-returns-9 c = reading-at _ (c .before .before .before .before .before .before .before .args .a) (c .before .before .before .before .before .before .before .args .b) (c .before .before .before .before .before .before .before .args .d) _ _ _ 9 _ (c .before .before .before .before .match .keys9) (c .before .before .align .ensures)
+returns-9 c =
+    let at2 = c .before .before in
+    let at4 = at2 .before .before in
+    let start = at4 .before .before .before in
+    reading-at _ (start .args .a) (start .args .b) (start .args .d) _ _ _ 9 _ (at4 .match .keys9) (at2 .align .ensures)
 
 fail-requires : tie.Need-fail-requires
 fail-requires c κs = search needs
@@ -104,7 +140,11 @@ same-length-10 c = search needs
 
 returns-10 : tie.Need-returns-10
 unfolding readingMade
-returns-10 c = reading-at _ (c .before .before .before .before .before .before .before .args .a) (c .before .before .before .before .before .before .before .args .b) (c .before .before .before .before .before .before .before .args .d) _ _ _ 10 _ (c .before .before .before .before .match .keys10) (c .before .before .fail .ensures)
+returns-10 c =
+    let at2 = c .before .before in
+    let at4 = at2 .before .before in
+    let start = at4 .before .before .before in
+    reading-at _ (start .args .a) (start .args .b) (start .args .d) _ _ _ 10 _ (at4 .match .keys10) (at2 .fail .ensures)
 
 line--requires : tie.Need-line--requires
 line--requires c κs = search needs
@@ -114,7 +154,11 @@ same-length-11 c = search needs
 
 returns-11 : tie.Need-returns-11
 unfolding readingMade
-returns-11 c = reading-at _ (c .before .before .before .before .before .before .before .args .a) (c .before .before .before .before .before .before .before .args .b) (c .before .before .before .before .before .before .before .args .d) _ _ _ 13 _ (c .before .before .before .before .match .keys11) (c .before .before .line- .ensures)
+returns-11 c =
+    let at2 = c .before .before in
+    let at4 = at2 .before .before in
+    let start = at4 .before .before .before in
+    reading-at _ (start .args .a) (start .args .b) (start .args .d) _ _ _ 13 _ (at4 .match .keys11) (at2 .line- .ensures)
 
 softline--requires : tie.Need-softline--requires
 softline--requires c κs = search needs
@@ -124,7 +168,11 @@ same-length-12 c = search needs
 
 returns-12 : tie.Need-returns-12
 unfolding readingMade
-returns-12 c = reading-at _ (c .before .before .before .before .before .before .before .args .a) (c .before .before .before .before .before .before .before .args .b) (c .before .before .before .before .before .before .before .args .d) _ _ _ 15 _ (c .before .before .before .before .match .keys12) (c .before .before .softline- .ensures)
+returns-12 c =
+    let at2 = c .before .before in
+    let at4 = at2 .before .before in
+    let start = at4 .before .before .before in
+    reading-at _ (start .args .a) (start .args .b) (start .args .d) _ _ _ 15 _ (at4 .match .keys12) (at2 .softline- .ensures)
 
 hang-requires : tie.Need-hang-requires
 hang-requires c κs = search needs
@@ -134,7 +182,11 @@ same-length-13 c = search needs
 
 returns-13 : tie.Need-returns-13
 unfolding readingMade
-returns-13 c = reading-at _ (c .before .before .before .before .before .before .before .args .a) (c .before .before .before .before .before .before .before .args .b) (c .before .before .before .before .before .before .before .args .d) _ _ _ 16 _ (c .before .before .before .before .match .keys13) (c .before .before .hang .ensures)
+returns-13 c =
+    let at2 = c .before .before in
+    let at4 = at2 .before .before in
+    let start = at4 .before .before .before in
+    reading-at _ (start .args .a) (start .args .b) (start .args .d) _ _ _ 16 _ (at4 .match .keys13) (at2 .hang .ensures)
 
 enclose-requires : tie.Need-enclose-requires
 enclose-requires c κs = search needs
@@ -143,7 +195,33 @@ same-length-14 : tie.Need-same-length-14
 same-length-14 c = search needs
 
 returns-14 : tie.Need-returns-14
-returns-14 c = let h = c .before .before .before .before .match .rest in reading-rest _ _ _ _ _ _ _ _ (h .0 .0 .0 .0 .0 .0 .0 .0 .0 .0 .0 .0 .1) (h .0 .0 .0 .0 .0 .0 .0 .0 .0 .0 .0 .1) (h .0 .0 .0 .0 .0 .0 .0 .0 .0 .0 .1) (h .0 .0 .0 .0 .0 .0 .0 .0 .0 .1) (h .0 .0 .0 .0 .0 .0 .0 .0 .1) (h .0 .0 .0 .0 .0 .0 .0 .1) (h .0 .0 .0 .0 .0 .0 .1) (h .0 .0 .0 .0 .0 .1) (h .0 .0 .0 .0 .1) (h .0 .0 .0 .1) (h .0 .0 .1) (h .0 .1) (h .1) (c .before .before .enclose .ensures)
+returns-14 c =
+    let at2 = c .before .before in
+    let at4 = at2 .before .before in
+    let h = at4 .match .rest in
+    reading-rest
+    _
+    _
+    _
+    _
+    _
+    _
+    _
+    _
+    (h .0 .0 .0 .0 .0 .0 .0 .0 .0 .0 .0 .0 .1)
+    (h .0 .0 .0 .0 .0 .0 .0 .0 .0 .0 .0 .1)
+    (h .0 .0 .0 .0 .0 .0 .0 .0 .0 .0 .1)
+    (h .0 .0 .0 .0 .0 .0 .0 .0 .0 .1)
+    (h .0 .0 .0 .0 .0 .0 .0 .0 .1)
+    (h .0 .0 .0 .0 .0 .0 .0 .1)
+    (h .0 .0 .0 .0 .0 .0 .1)
+    (h .0 .0 .0 .0 .0 .1)
+    (h .0 .0 .0 .0 .1)
+    (h .0 .0 .0 .1)
+    (h .0 .0 .1)
+    (h .0 .1)
+    (h .1)
+    (at2 .enclose .ensures)
 
 pub reading-spec : {M : Type 1} → statement M
 reading-spec =

@@ -31,7 +31,12 @@ loop-less : tie.Need-loop-less Inv-loop μ-loop
 loop-less c = search needs
 
 loop-again : tie.Need-loop-again Inv-loop μ-loop
-loop-again c = let L = c .before .before .before .loop in let s = c .before .before .before .before .args .s .now in (omega arith, omega arith, omega (arith, low-counts s (L .i) (omega arith) (c .if1 .taken), L .inv .2))
+loop-again c =
+    let at3 = c .before .before .before in
+    let start = at3 .before in
+    let L = at3 .loop in
+    let s = start .args .s .now in
+    (omega arith, omega arith, omega (arith, low-counts s (L .i) (omega arith) (c .if1 .taken), L .inv .2))
 
 add-count-2 : tie.Need-add-count-2 Inv-loop μ-loop
 add-count-2 c = search needs
@@ -40,13 +45,23 @@ loop-less-2 : tie.Need-loop-less-2 Inv-loop μ-loop
 loop-less-2 c = search needs
 
 loop-again-2 : tie.Need-loop-again-2 Inv-loop μ-loop
-loop-again-2 c = let L = c .before .before .before .before .loop in let s = c .before .before .before .before .before .args .s .now in (omega arith, omega arith, omega (arith, high-counts s (L .i) (omega arith) (c .if2 .taken), L .inv .2))
+loop-again-2 c =
+    let at4 = c .before .before .before .before in
+    let start = at4 .before in
+    let L = at4 .loop in
+    let s = start .args .s .now in
+    (omega arith, omega arith, omega (arith, high-counts s (L .i) (omega arith) (c .if2 .taken), L .inv .2))
 
 loop-less-3 : tie.Need-loop-less-3 Inv-loop μ-loop
 loop-less-3 c = search needs
 
 loop-again-3 : tie.Need-loop-again-3 Inv-loop μ-loop
-loop-again-3 c = let L = c .before .before .before .before .loop in let s = c .before .before .before .before .before .args .s .now in (omega arith, omega arith, omega (arith, rest-counts s (L .i) (omega arith) (omega arith) (omega arith), L .inv .2))
+loop-again-3 c =
+    let at4 = c .before .before .before .before in
+    let start = at4 .before in
+    let L = at4 .loop in
+    let s = start .args .s .now in
+    (omega arith, omega arith, omega (arith, rest-counts s (L .i) (omega arith) (omega arith) (omega arith), L .inv .2))
 
 returns : tie.Need-returns Inv-loop μ-loop
 returns c = let L = c .before .loop in let s = c .before .before .args .s .now in omega (arith, no-characters s (L .i) (omega arith), L .inv .2)

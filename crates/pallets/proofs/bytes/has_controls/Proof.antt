@@ -22,10 +22,20 @@ shared-slice-read-b : tie.Need-shared-slice-read-b Inv-loop μ-loop
 shared-slice-read-b c = search needs
 
 returns : tie.Need-returns Inv-loop μ-loop
-returns c = let L = c .before .before .before .loop in let s = c .before .before .before .before .args .s .now in sym (sym (L .inv .1) ∙ control-low s (L .i) (omega arith) (c .if1 .taken))
+returns c =
+    let at3 = c .before .before .before in
+    let start = at3 .before in
+    let L = at3 .loop in
+    let s = start .args .s .now in
+    sym (sym (L .inv .1) ∙ control-low s (L .i) (omega arith) (c .if1 .taken))
 
 returns-2 : tie.Need-returns-2 Inv-loop μ-loop
-returns-2 c = let L = c .before .before .before .before .loop in let s = c .before .before .before .before .before .args .s .now in sym (sym (L .inv .1) ∙ control-last s (L .i) (omega arith) (omega arith) (c .if2 .taken))
+returns-2 c =
+    let at4 = c .before .before .before .before in
+    let start = at4 .before in
+    let L = at4 .loop in
+    let s = start .args .s .now in
+    sym (sym (L .inv .1) ∙ control-last s (L .i) (omega arith) (omega arith) (c .if2 .taken))
 
 add-i : tie.Need-add-i Inv-loop μ-loop
 add-i c = search needs
@@ -34,7 +44,12 @@ loop-less : tie.Need-loop-less Inv-loop μ-loop
 loop-less c = search needs
 
 loop-again : tie.Need-loop-again Inv-loop μ-loop
-loop-again c = let L = c .before .before .before .before .loop in let s = c .before .before .before .before .before .args .s .now in (omega arith, sym (control-none s (L .i) (omega arith) (omega arith) (c .if2 .left)) ∙ L .inv .1)
+loop-again c =
+    let at4 = c .before .before .before .before in
+    let start = at4 .before in
+    let L = at4 .loop in
+    let s = start .args .s .now in
+    (omega arith, sym (control-none s (L .i) (omega arith) (omega arith) (c .if2 .left)) ∙ L .inv .1)
 
 returns-3 : tie.Need-returns-3 Inv-loop μ-loop
 returns-3 c = let L = c .before .loop in let s = c .before .before .args .s .now in sym (sym (L .inv .1) ∙ no-controls s (L .i) (omega arith))

@@ -22,7 +22,12 @@ shared-slice-read-if1 : tie.Need-shared-slice-read-if1 Inv-loop μ-loop
 shared-slice-read-if1 c = search needs
 
 returns : tie.Need-returns Inv-loop μ-loop
-returns c = let L = c .before .before .before .loop in let s = c .before .before .before .before .args .s .now in sym (sym (L .inv .1) ∙ blank-not s (L .i) (omega arith) (c .if1 .taken))
+returns c =
+    let at3 = c .before .before .before in
+    let start = at3 .before in
+    let L = at3 .loop in
+    let s = start .args .s .now in
+    sym (sym (L .inv .1) ∙ blank-not s (L .i) (omega arith) (c .if1 .taken))
 
 add-i : tie.Need-add-i Inv-loop μ-loop
 add-i c = search needs
@@ -31,7 +36,12 @@ loop-less : tie.Need-loop-less Inv-loop μ-loop
 loop-less c = search needs
 
 loop-again : tie.Need-loop-again Inv-loop μ-loop
-loop-again c = let L = c .before .before .before .loop in let s = c .before .before .before .before .args .s .now in (omega arith, sym (blank-next s (L .i) (omega arith) (c .if1 .left)) ∙ L .inv .1)
+loop-again c =
+    let at3 = c .before .before .before in
+    let start = at3 .before in
+    let L = at3 .loop in
+    let s = start .args .s .now in
+    (omega arith, sym (blank-next s (L .i) (omega arith) (c .if1 .left)) ∙ L .inv .1)
 
 returns-2 : tie.Need-returns-2 Inv-loop μ-loop
 returns-2 c = let L = c .before .loop in let s = c .before .before .args .s .now in sym (sym (L .inv .1) ∙ all-blank s (L .i) (omega arith))

@@ -22,7 +22,12 @@ shared-slice-read-if1 : tie.Need-shared-slice-read-if1 Inv-loop μ-loop
 shared-slice-read-if1 c = search needs
 
 returns : tie.Need-returns Inv-loop μ-loop
-returns c = let L = c .before .before .before .loop in let s = c .before .before .before .before .args .s .now in omega (arith, part-here s (L .i) (omega arith) (c .before .before .before .before .args .b) (c .if1 .taken), L .inv .1)
+returns c =
+    let at3 = c .before .before .before in
+    let start = at3 .before in
+    let L = at3 .loop in
+    let s = start .args .s .now in
+    omega (arith, part-here s (L .i) (omega arith) (start .args .b) (c .if1 .taken), L .inv .1)
 
 add-i : tie.Need-add-i Inv-loop μ-loop
 add-i c = search needs
@@ -31,10 +36,19 @@ loop-less : tie.Need-loop-less Inv-loop μ-loop
 loop-less c = search needs
 
 loop-again : tie.Need-loop-again Inv-loop μ-loop
-loop-again c = let L = c .before .before .before .loop in let s = c .before .before .before .before .args .s .now in (omega arith, omega (arith, part-next s (L .i) (omega arith) (c .before .before .before .before .args .b) (c .if1 .left), L .inv .1))
+loop-again c =
+    let at3 = c .before .before .before in
+    let start = at3 .before in
+    let L = at3 .loop in
+    let s = start .args .s .now in
+    (omega arith, omega (arith, part-next s (L .i) (omega arith) (start .args .b) (c .if1 .left), L .inv .1))
 
 returns-2 : tie.Need-returns-2 Inv-loop μ-loop
-returns-2 c = let L = c .before .loop in let s = c .before .before .args .s .now in omega (arith, no-part s (L .i) (c .before .before .args .b) (omega arith), L .inv .1)
+returns-2 c =
+    let start = c .before .before in
+    let L = c .before .loop in
+    let s = start .args .s .now in
+    omega (arith, no-part s (L .i) (start .args .b) (omega arith), L .inv .1)
 
 pub part-end-spec : {M : Type 1} → statement M
 part-end-spec =

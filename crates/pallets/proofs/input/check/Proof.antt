@@ -30,7 +30,11 @@ part-told-start : tie.Need-part-told-start Inv-loop μ-loop
 part-told-start c = search needs
 
 part-told-end : tie.Need-part-told-end Inv-loop μ-loop
-part-told-end c = let L = c .before .before .loop in omega (arith, part-within (c .before .before .before .before .args .input .now) (L .at) 10 (omega arith), c .part-end .ensures)
+part-told-end c =
+    let at2 = c .before .before in
+    let start = at2 .before .before in
+    let L = at2 .loop in
+    omega (arith, part-within (start .args .input .now) (L .at) 10 (omega arith), c .part-end .ensures)
 
 told-requires : tie.Need-told-requires Inv-loop μ-loop
 told-requires c κs = search needs
@@ -42,13 +46,31 @@ add-t12 : tie.Need-add-t12 Inv-loop μ-loop
 add-t12 c = search needs
 
 returns : tie.Need-returns Inv-loop μ-loop
-returns c = let L = c .before .before .before .before .before .before .before .loop in let s = c .before .before .before .before .before .before .before .before .before .args .input .now in let end = c .before .before .before .before .before .part-end .result in let rest = checked (L .before + 1) (lines (drop (end + 1) s)) in ap (λ (v : Verdict). firstOf (L .before + 1) v rest) (sym (c .before .verdict .given .1) ∙ c .before .before .before .told .ensures) ∙ check-line s (L .at) (L .before) end (c .before .before .before .before .before .part-end .ensures) (omega arith) ∙ L .inv .2
+returns c =
+    let at3 = c .before .before .before in
+    let at5 = at3 .before .before in
+    let at7 = at5 .before .before in
+    let start = at7 .before .before in
+    let L = at7 .loop in
+    let s = start .args .input .now in
+    let end = at5 .part-end .result in
+    let rest = checked (L .before + 1) (lines (drop (end + 1) s)) in
+    ap (λ (v : Verdict). firstOf (L .before + 1) v rest) (sym (c .before .verdict .given .1) ∙ at3 .told .ensures) ∙ check-line s (L .at) (L .before) end (at5 .part-end .ensures) (omega arith) ∙ L .inv .2
 
 enum-told : tie.Need-enum-told Inv-loop μ-loop
 enum-told c = search needs
 
 returns-2 : tie.Need-returns-2 Inv-loop μ-loop
-returns-2 c = let L = c .before .before .before .before .before .before .before .loop in let s = c .before .before .before .before .before .before .before .before .before .args .input .now in let end = c .before .before .before .before .before .part-end .result in let rest = checked (L .before + 1) (lines (drop (end + 1) s)) in rest-none s (L .before + 1) (end + 1) (omega arith) ∙ ap (λ (v : Verdict). firstOf (L .before + 1) v rest) (sym (c .before .enum-told .given .1) ∙ c .before .before .before .told .ensures) ∙ check-line s (L .at) (L .before) end (c .before .before .before .before .before .part-end .ensures) (omega arith) ∙ L .inv .2
+returns-2 c =
+    let at3 = c .before .before .before in
+    let at5 = at3 .before .before in
+    let at7 = at5 .before .before in
+    let start = at7 .before .before in
+    let L = at7 .loop in
+    let s = start .args .input .now in
+    let end = at5 .part-end .result in
+    let rest = checked (L .before + 1) (lines (drop (end + 1) s)) in
+    rest-none s (L .before + 1) (end + 1) (omega arith) ∙ ap (λ (v : Verdict). firstOf (L .before + 1) v rest) (sym (c .before .enum-told .given .1) ∙ at3 .told .ensures) ∙ check-line s (L .at) (L .before) end (at5 .part-end .ensures) (omega arith) ∙ L .inv .2
 
 add-before : tie.Need-add-before Inv-loop μ-loop
 add-before c = search needs
@@ -60,7 +82,16 @@ loop-less : tie.Need-loop-less Inv-loop μ-loop
 loop-less c = search needs
 
 loop-again : tie.Need-loop-again Inv-loop μ-loop
-loop-again c = let L = c .before .before .before .before .before .before .before .loop in let s = c .before .before .before .before .before .before .before .before .before .args .input .now in let end = c .before .before .before .before .before .part-end .result in let rest = checked (L .before + 1) (lines (drop (end + 1) s)) in (omega arith, omega arith, ap (λ (v : Verdict). firstOf (L .before + 1) v rest) (sym (c .before .enum-told .given .1) ∙ c .before .before .before .told .ensures) ∙ check-line s (L .at) (L .before) end (c .before .before .before .before .before .part-end .ensures) (omega arith) ∙ L .inv .2)
+loop-again c =
+    let at3 = c .before .before .before in
+    let at5 = at3 .before .before in
+    let at7 = at5 .before .before in
+    let start = at7 .before .before in
+    let L = at7 .loop in
+    let s = start .args .input .now in
+    let end = at5 .part-end .result in
+    let rest = checked (L .before + 1) (lines (drop (end + 1) s)) in
+    (omega arith, omega arith, ap (λ (v : Verdict). firstOf (L .before + 1) v rest) (sym (c .before .enum-told .given .1) ∙ at3 .told .ensures) ∙ check-line s (L .at) (L .before) end (at5 .part-end .ensures) (omega arith) ∙ L .inv .2)
 
 returns-3 : tie.Need-returns-3 Inv-loop μ-loop
 returns-3 c = let L = c .before .loop in rest-none (c .before .before .before .args .input .now) (L .before) (L .at) (omega arith) ∙ L .inv .2

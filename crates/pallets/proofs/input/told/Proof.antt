@@ -33,19 +33,39 @@ enum-told-3 c = search needs
 
 returns : tie.Need-returns
 unfolding verdictOf
-returns c = let s = c .before .before .before .before .before .before .before .args .s .now in ap verdictOf (sym (c .before .line .given .1) ∙ c .before .before .before .parse .ensures ∙ ap (λ (k : ℕ). parsed (take k s)) (c .before .before .before .before .before .body-end .ensures))
+returns c =
+    let at3 = c .before .before .before in
+    let at5 = at3 .before .before in
+    let start = at5 .before .before in
+    let s = start .args .s .now in
+    ap verdictOf (sym (c .before .line .given .1) ∙ at3 .parse .ensures ∙ ap (λ (k : ℕ). parsed (take k s)) (at5 .body-end .ensures))
 
 returns-2 : tie.Need-returns-2
 unfolding verdictOf
-returns-2 c = let s = c .before .before .before .before .before .before .args .s .now in ap verdictOf (sym (c .enum-told .given .1) ∙ c .before .before .parse .ensures ∙ ap (λ (k : ℕ). parsed (take k s)) (c .before .before .before .before .body-end .ensures))
+returns-2 c =
+    let at2 = c .before .before in
+    let at4 = at2 .before .before in
+    let start = at4 .before .before in
+    let s = start .args .s .now in
+    ap verdictOf (sym (c .enum-told .given .1) ∙ at2 .parse .ensures ∙ ap (λ (k : ℕ). parsed (take k s)) (at4 .body-end .ensures))
 
 returns-3 : tie.Need-returns-3
 unfolding verdictOf
-returns-3 c = let s = c .before .before .before .before .before .before .args .s .now in ap verdictOf (sym (c .enum-told2 .given .1) ∙ c .before .before .parse .ensures ∙ ap (λ (k : ℕ). parsed (take k s)) (c .before .before .before .before .body-end .ensures))
+returns-3 c =
+    let at2 = c .before .before in
+    let at4 = at2 .before .before in
+    let start = at4 .before .before in
+    let s = start .args .s .now in
+    ap verdictOf (sym (c .enum-told2 .given .1) ∙ at2 .parse .ensures ∙ ap (λ (k : ℕ). parsed (take k s)) (at4 .body-end .ensures))
 
 returns-4 : tie.Need-returns-4
 unfolding verdictOf
-returns-4 c = let s = c .before .before .before .before .before .before .args .s .now in ap verdictOf (sym (c .enum-told3 .given .1) ∙ c .before .before .parse .ensures ∙ ap (λ (k : ℕ). parsed (take k s)) (c .before .before .before .before .body-end .ensures))
+returns-4 c =
+    let at2 = c .before .before in
+    let at4 = at2 .before .before in
+    let start = at4 .before .before in
+    let s = start .args .s .now in
+    ap verdictOf (sym (c .enum-told3 .given .1) ∙ at2 .parse .ensures ∙ ap (λ (k : ℕ). parsed (take k s)) (at4 .body-end .ensures))
 
 pub told-spec : {M : Type 1} → statement M
 told-spec =

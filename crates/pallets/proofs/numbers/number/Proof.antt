@@ -28,19 +28,39 @@ shared-slice-read-b : tie.Need-shared-slice-read-b Inv-loop μ-loop
 shared-slice-read-b c = search needs
 
 returns-3 : tie.Need-returns-3 Inv-loop μ-loop
-returns-3 c = let L = c .before .before .before .loop in let s = c .before .before .before .before .before .before .args .s .now in sym (number-is s (omega arith) (omega arith) ∙ sym (L .inv .2) ∙ digit-low (L .value) s (L .i) (omega arith) (c .if3 .taken))
+returns-3 c =
+    let at3 = c .before .before .before in
+    let start = at3 .before .before .before in
+    let L = at3 .loop in
+    let s = start .args .s .now in
+    sym (number-is s (omega arith) (omega arith) ∙ sym (L .inv .2) ∙ digit-low (L .value) s (L .i) (omega arith) (c .if3 .taken))
 
 returns-4 : tie.Need-returns-4 Inv-loop μ-loop
-returns-4 c = let L = c .before .before .before .before .loop in let s = c .before .before .before .before .before .before .before .args .s .now in sym (number-is s (omega arith) (omega arith) ∙ sym (L .inv .2) ∙ digit-high (L .value) s (L .i) (omega arith) (c .if4 .taken))
+returns-4 c =
+    let at4 = c .before .before .before .before in
+    let start = at4 .before .before .before in
+    let L = at4 .loop in
+    let s = start .args .s .now in
+    sym (number-is s (omega arith) (omega arith) ∙ sym (L .inv .2) ∙ digit-high (L .value) s (L .i) (omega arith) (c .if4 .taken))
 
 mul-value : tie.Need-mul-value Inv-loop μ-loop
-mul-value c = let L = c .before .before .before .before .loop in let s = c .before .before .before .before .before .before .before .args .s .now in omega (arith, ten-small (L .i) (L .value) (L .inv .1) (omega arith))
+mul-value c =
+    let at4 = c .before .before .before .before in
+    let start = at4 .before .before .before in
+    let L = at4 .loop in
+    let s = start .args .s .now in
+    omega (arith, ten-small (L .i) (L .value) (L .inv .1) (omega arith))
 
 cast-value : tie.Need-cast-value Inv-loop μ-loop
 cast-value c = search needs
 
 add-value : tie.Need-add-value Inv-loop μ-loop
-add-value c = let L = c .before .before .before .before .loop in let s = c .before .before .before .before .before .before .before .args .s .now in omega (arith, ten-small (L .i) (L .value) (L .inv .1) (omega arith))
+add-value c =
+    let at4 = c .before .before .before .before in
+    let start = at4 .before .before .before in
+    let L = at4 .loop in
+    let s = start .args .s .now in
+    omega (arith, ten-small (L .i) (L .value) (L .inv .1) (omega arith))
 
 add-i : tie.Need-add-i Inv-loop μ-loop
 add-i c = search needs
@@ -49,10 +69,19 @@ loop-less : tie.Need-loop-less Inv-loop μ-loop
 loop-less c = search needs
 
 loop-again : tie.Need-loop-again Inv-loop μ-loop
-loop-again c = let L = c .before .before .before .before .loop in let s = c .before .before .before .before .before .before .before .args .s .now in (omega arith, ten-more (L .i) (L .value) (getD s (L .i) 0 - 48) (L .inv .1) (omega arith), sym (digit-next (L .value) s (L .i) (omega arith) (omega arith) (omega arith)) ∙ L .inv .2)
+loop-again c =
+    let at4 = c .before .before .before .before in
+    let start = at4 .before .before .before in
+    let L = at4 .loop in
+    let s = start .args .s .now in
+    (omega arith, ten-more (L .i) (L .value) (getD s (L .i) 0 - 48) (L .inv .1) (omega arith), sym (digit-next (L .value) s (L .i) (omega arith) (omega arith) (omega arith)) ∙ L .inv .2)
 
 returns-5 : tie.Need-returns-5 Inv-loop μ-loop
-returns-5 c = let L = c .before .loop in let s = c .before .before .before .before .args .s .now in sym (number-is s (omega arith) (omega arith) ∙ sym (L .inv .2) ∙ digits-end (L .value) s (L .i) (omega arith))
+returns-5 c =
+    let start = c .before .before .before .before in
+    let L = c .before .loop in
+    let s = start .args .s .now in
+    sym (number-is s (omega arith) (omega arith) ∙ sym (L .inv .2) ∙ digits-end (L .value) s (L .i) (omega arith))
 
 pub number-spec : {M : Type 1} → statement M
 number-spec =

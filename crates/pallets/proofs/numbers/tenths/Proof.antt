@@ -30,7 +30,9 @@ is-point-requires : tie.Need-is-point-requires
 is-point-requires c κs = search needs
 
 returns-3 : tie.Need-returns-3
-returns-3 c = tenths-no-point (c .before .before .before .before .before .before .args .s .now) (omega arith) (omega arith) (sym (c .before .is-point .ensures) ∙ not-true _ (c .if3 .taken))
+returns-3 c =
+    let start = c .before .before .before .before .before .before in
+    tenths-no-point (start .args .s .now) (omega arith) (omega arith) (sym (c .before .is-point .ensures) ∙ not-true _ (c .if3 .taken))
 
 slice-aggregate-number : tie.Need-slice-aggregate-number
 slice-aggregate-number c = sym (length-take-le _ _ (omega arith))
@@ -54,7 +56,12 @@ tenths-add-requires : tie.Need-tenths-add-requires
 tenths-add-requires c κs = (subst Small (sym (c .before .before .number .ensures)) (number-small _), subst Small (sym (c .number2 .ensures)) (number-small _))
 
 returns-4 : tie.Need-returns-4
-returns-4 c = c .tenths-add .ensures ∙ ap₂ tenthsAdd (c .before .before .before .number .ensures) (c .before .number2 .ensures) ∙ tenths-are (c .before .before .before .before .before .before .before .before .before .before .before .args .s .now) (omega arith) (omega arith) (sym (c .before .before .before .before .before .before .is-point .ensures) ∙ not-false _ (c .before .before .before .before .before .if3 .left))
+returns-4 c =
+    let at3 = c .before .before .before in
+    let at5 = at3 .before .before in
+    let at6 = at5 .before in
+    let start = at6 .before .before .before .before .before in
+    c .tenths-add .ensures ∙ ap₂ tenthsAdd (at3 .number .ensures) (c .before .number2 .ensures) ∙ tenths-are (start .args .s .now) (omega arith) (omega arith) (sym (at6 .is-point .ensures) ∙ not-false _ (at5 .if3 .left))
 
 pub tenths-spec : {M : Type 1} → statement M
 tenths-spec =

@@ -19,10 +19,20 @@ enum-known-digit : tie.Need-enum-known-digit
 enum-known-digit c = search needs
 
 mul-t7 : tie.Need-mul-t7
-mul-t7 c = let h = subst Small (c .before .before .before .before .whole .given .1) (c .before .before .before .before .before .before .pre .0) in let k = subst Small (c .before .digit .given .1) (c .before .before .before .before .before .before .pre .1) in omega arith
+mul-t7 c =
+    let at4 = c .before .before .before .before in
+    let start = at4 .before .before in
+    let h = subst Small (at4 .whole .given .1) (start .pre .0) in
+    let k = subst Small (c .before .digit .given .1) (start .pre .1) in
+    omega arith
 
 add-t8 : tie.Need-add-t8
-add-t8 c = let h = subst Small (c .before .before .before .before .whole .given .1) (c .before .before .before .before .before .before .pre .0) in let k = subst Small (c .before .digit .given .1) (c .before .before .before .before .before .before .pre .1) in omega arith
+add-t8 c =
+    let at4 = c .before .before .before .before in
+    let start = at4 .before .before in
+    let h = subst Small (at4 .whole .given .1) (start .pre .0) in
+    let k = subst Small (c .before .digit .given .1) (start .pre .1) in
+    omega arith
 
 returns : tie.Need-returns
 unfolding tenthsAdd

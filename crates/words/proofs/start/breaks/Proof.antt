@@ -33,7 +33,10 @@ enum-told-2 : tie.Need-enum-told-2
 enum-told-2 c = search needs
 
 same-length-3 : tie.Need-same-length-3
-same-length-3 c = c .before .before .before .before .group .kept .1 .0 ∙ c .before .before .before .before .before .before .before .before .before .before .before .before .before .before .line .kept .1 .0
+same-length-3 c =
+    let at4 = c .before .before .before .before in
+    let at14 = at4 .before .before .before .before .before .before .before .before .before .before in
+    at4 .group .kept .1 .0 ∙ at14 .line .kept .1 .0
 
 same-length-4 : tie.Need-same-length-4
 same-length-4 c = c .before .before .before .before .before .before .before .before .before .before .before .before .before .before .line .kept .1 .1 .0
@@ -42,13 +45,20 @@ returns-2 : tie.Need-returns-2
 returns-2 c = search needs
 
 same-length-5 : tie.Need-same-length-5
-same-length-5 c = c .before .before .before .before .before .group .kept .1 .0 ∙ c .before .before .before .before .before .before .before .before .before .before .before .before .before .before .before .line .kept .1 .0
+same-length-5 c =
+    let at5 = c .before .before .before .before .before in
+    let at15 = at5 .before .before .before .before .before .before .before .before .before .before in
+    at5 .group .kept .1 .0 ∙ at15 .line .kept .1 .0
 
 same-length-6 : tie.Need-same-length-6
 same-length-6 c = c .before .before .before .before .before .before .before .before .before .before .before .before .before .before .before .line .kept .1 .1 .0
 
 returns-3 : tie.Need-returns-3
-returns-3 c = λ v i j. let b = lines (c .before .before .before .before .before .before .before .before .before .before .before .before .before .before .before .line .ensures) _ _ (c .before .before .before .before .before .before .before .before .before .c .given .1) v in let q = groups (new b) (c .before .before .before .before .before .group .ensures) _ _ (c .before .c2 .given .1) (b .valid) in (q .valid, record { none = kept q (kept b i); hardline = kept q (kept b j); line = kept q (new b); softline = new q })
+returns-3 c =
+    let at5 = c .before .before .before .before .before in
+    let at9 = at5 .before .before .before .before in
+    let at15 = at9 .before .before .before .before .before .before in
+    λ v i j. let b = lines (at15 .line .ensures) _ _ (at9 .c .given .1) v in let q = groups (new b) (at5 .group .ensures) _ _ (c .before .c2 .given .1) (b .valid) in (q .valid, record { none = kept q (kept b i); hardline = kept q (kept b j); line = kept q (new b); softline = new q })
 
 pub breaks-spec : {M : Type 1} → statement M
 breaks-spec =

@@ -33,7 +33,10 @@ enum-told-2 : tie.Need-enum-told-2
 enum-told-2 c = search needs
 
 same-length-3 : tie.Need-same-length-3
-same-length-3 c = c .before .before .before .before .hardline .kept .1 .0 ∙ c .before .before .before .before .before .before .before .before .before .before .before .before .nil .kept .1 .0
+same-length-3 c =
+    let at4 = c .before .before .before .before in
+    let at12 = at4 .before .before .before .before .before .before .before .before in
+    at4 .hardline .kept .1 .0 ∙ at12 .nil .kept .1 .0
 
 same-length-4 : tie.Need-same-length-4
 same-length-4 c = refl
@@ -45,13 +48,27 @@ breaks-requires : tie.Need-breaks-requires
 breaks-requires c κs = tt
 
 same-length-5 : tie.Need-same-length-5
-same-length-5 c = c .before .before .before .before .breaks .kept .1 .0 ∙ c .before .before .before .before .before .before .before .before .before .before .before .before .hardline .kept .1 .0 ∙ c .before .before .before .before .before .before .before .before .before .before .before .before .before .before .before .before .before .before .before .before .nil .kept .1 .0
+same-length-5 c =
+    let at4 = c .before .before .before .before in
+    let at12 = at4 .before .before .before .before .before .before .before .before in
+    let at20 = at12 .before .before .before .before .before .before .before .before in
+    at4 .breaks .kept .1 .0 ∙ at12 .hardline .kept .1 .0 ∙ at20 .nil .kept .1 .0
 
 same-length-6 : tie.Need-same-length-6
 same-length-6 c = c .before .before .before .before .breaks .kept .1 .1 .0
 
 returns-3 : tie.Need-returns-3
-returns-3 c = let a = c .before .before .before .before .before .before .before .before .before .before .before .before .before .before .before .before .before .before .before .before .before .before .before .before .before .args in let b = nils (c .before .before .before .before .before .before .before .before .before .before .before .before .before .before .before .before .before .before .before .before .nil .ensures) _ _ (c .before .before .before .before .before .before .before .before .before .before .before .before .before .before .before .before .c .given .1) (empty-valid (a .table .now) (a .text .now)) in let q = feeds (c .before .before .before .before .before .before .before .before .before .before .before .before .hardline .ensures) _ _ (c .before .before .before .before .before .before .before .before .c2 .given .1) (b .valid) in c .before .before .before .before .breaks .ensures (q .valid) (kept q (new b)) (new q)
+returns-3 c =
+    let at4 = c .before .before .before .before in
+    let at8 = at4 .before .before .before .before in
+    let at12 = at8 .before .before .before .before in
+    let at16 = at12 .before .before .before .before in
+    let at20 = at16 .before .before .before .before in
+    let start = at20 .before .before .before .before .before in
+    let a = start .args in
+    let b = nils (at20 .nil .ensures) _ _ (at16 .c .given .1) (empty-valid (a .table .now) (a .text .now)) in
+    let q = feeds (at12 .hardline .ensures) _ _ (at8 .c2 .given .1) (b .valid) in
+    at4 .breaks .ensures (q .valid) (kept q (new b)) (new q)
 
 pub share-spec : {M : Type 1} → statement M
 share-spec =

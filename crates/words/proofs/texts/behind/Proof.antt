@@ -18,7 +18,11 @@ part-result-end : tie.Need-part-result-end
 part-result-end c = search needs
 
 returns : tie.Need-returns
-returns c = let a = c .before .before .args in let s = a .s .now in rest-is s (length s) ∙ done s (length s) (omega arith) ∙ sym (done s (a .from) (omega arith))
+returns c =
+    let start = c .before .before in
+    let a = start .args in
+    let s = a .s .now in
+    rest-is s (length s) ∙ done s (length s) (omega arith) ∙ sym (done s (a .from) (omega arith))
 
 sub-result-2 : tie.Need-sub-result-2
 sub-result-2 c = search needs

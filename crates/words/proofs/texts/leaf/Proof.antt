@@ -24,7 +24,11 @@ same-length-2 : tie.Need-same-length-2
 same-length-2 c = c .before .before .before .before .text .kept .1 .1 .0
 
 returns-2 : tie.Need-returns-2
-returns-2 c = writes (c .before .before .before .before .before .before .before .before .before .before .before .before .args .bytes .now) (c .before .before .before .before .before .before .before .before .columns .result) (c .before .before .before .before .before .before .before .before .columns .ensures) (c .before .before .before .before .text .ensures)
+returns-2 c =
+    let at4 = c .before .before .before .before in
+    let at8 = at4 .before .before .before .before in
+    let start = at8 .before .before .before .before in
+    writes (start .args .bytes .now) (at8 .columns .result) (at8 .columns .ensures) (at4 .text .ensures)
 
 pub leaf-spec : {M : Type 1} → statement M
 leaf-spec =

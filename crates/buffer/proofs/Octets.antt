@@ -1,0 +1,163 @@
+-- The laws of octets that the readers of text bytes lean on.
+--     owed-start, ascii-well           an octet that starts a character; bytes below 128 are well-formed
+--     ascii-more, ascii-part, ascii-short    all below 128: one octet more; a part of the text; the front of a part
+--     start-same                       first octets between two bounds owe the same
+--     owed-first, owed-outside, owed-next, owed-end, owed-read, owed-low   one octet of what is owed; the end; an octet read; one below 128 read
+-- Assumes nothing.
+use Prim.Native.Nat.{ℕ, zero, suc, _+_, _-_, _≤_, _<_}
+use native.Mathlib.Omega.{arith}
+use native.Mathlib.Numerals.{add-one}
+use mathlib.Core.Path.{_≡_, refl, sym, ap, ap₂, _∙_}
+use mathlib.Core.Bool.{Bool, true, false, _&&_, _||_}
+use mathlib.Core.List.{List, [], _∷_, _++_}
+use lib.ListN.{length, getD, take, drop, replicate}
+use lib.Seq.{take-suc, take-take, drop-cons}
+use lib.Dec.{eqb, ltb, leb, eqb·suc-zero}
+use borrow.Author.Tests.{ltb-true, leb-true, le-leb, lt-leb}
+use Rattle.buffer.specs.Utf8.{Range, to, within, tail, Start, start, follow, never, owed, wellFormed, ascii}
+use Rattle.buffer.specs.Reader.{owing, ranges, starts, goesOn, GoesOn}
+use Rattle.buffer.specs.declared.utf8.Owing.{Owing}
+use Rattle.buffer.specs.declared.utf8.Next.{Next}
+use Rattle.buffer.specs.declared.utf8.Next.the-variants.{Owes, Wrong}
+use Rattle.choice.proofs.Tests.{and-end, and-true, true-and, or-true, all, all-at}
+
+-- ---- characters
+
+-- an octet that starts a character owes what follows it
+pub owed-start : (b : ℕ) (bs : List ℕ) (rs : List Range) → start b ≡ follow rs → owed [] (b ∷ bs) ≡ owed rs bs
+unfolding owed
+owed-start b bs rs e = ap (λ (s : Start). elim s as (λ x. Bool) [ follow qs ↦ owed qs bs | never ↦ false ]) e
+
+-- bytes below 128 are well-formed
+pub ascii-well : (bs : List ℕ) → ascii bs ≡ true → wellFormed bs ≡ true
+unfolding ascii wellFormed
+ascii-well [] e = unfold owed in refl
+ascii-well (b ∷ bs) e =
+    let p = and-true (ltb b 128) (ascii bs) e in
+    let h : b ≤ 127 = omega (arith, ltb-true b 128 (p .0)) in
+    let s : start b ≡ follow [] = rw (le-leb 0 b (omega arith), le-leb b 127 h) in
+    owed-start b bs [] s ∙ ascii-well bs (p .1)
+
+-- ---- all below 128
+
+and-assoc : (p q r : Bool) → (p && q) && r ≡ p && (q && r)
+and-assoc true q r = refl
+and-assoc false q r = refl
+
+ascii-append : (xs ys : List ℕ) → ascii (xs ++ ys) ≡ ascii xs && ascii ys
+unfolding ascii
+ascii-append [] ys = refl
+ascii-append (x ∷ xs) ys = ap (λ (p : Bool). ltb x 128 && p) (ascii-append xs ys) ∙ sym (and-assoc (ltb x 128) (ascii xs) (ascii ys))
+
+pub ascii-more : (s : List ℕ) (i : ℕ) → i < length s → ascii (take i s) && ltb (getD s i 0) 128 ≡ ascii (take (i + 1) s)
+unfolding ascii
+ascii-more s i h =
+    let one : ascii (getD s i 0 ∷ []) ≡ ltb (getD s i 0) 128 = and-end (ltb (getD s i 0) 128) in
+    ap (λ (p : Bool). ascii (take i s) && p) (sym one) ∙ sym (ascii-append (take i s) (getD s i 0 ∷ [])) ∙ ap ascii (sym (take-suc s i 0 h) ∙ ap (λ (k : ℕ). take k s) (sym (add-one i)))
+
+ascii-take : (n : ℕ) (s : List ℕ) → ascii s ≡ true → ascii (take n s) ≡ true
+unfolding ascii
+ascii-take zero s e = refl
+ascii-take (suc n) [] e = refl
+ascii-take (suc n) (b ∷ s) e = let p = and-true (ltb b 128) (ascii s) e in true-and _ _ (p .0) (ascii-take n s (p .1))
+
+ascii-drop : (n : ℕ) (s : List ℕ) → ascii s ≡ true → ascii (drop n s) ≡ true
+unfolding ascii
+ascii-drop zero s e = e
+ascii-drop (suc n) [] e = refl
+ascii-drop (suc n) (b ∷ s) e = ascii-drop n s (and-true (ltb b 128) (ascii s) e .1)
+
+-- all of the text below 128: so is every part of it
+pub ascii-part : (s : List ℕ) (o l : ℕ) → ascii s ≡ true → ascii (take l (drop o s)) ≡ true
+ascii-part s o l e = ascii-take l (drop o s) (ascii-drop o s e)
+
+-- the front of what is below 128
+pub ascii-short : (s : List ℕ) (n m : ℕ) → n ≤ m → ascii (take m s) ≡ true → ascii (take n s) ≡ true
+ascii-short s n m h e = ap ascii (sym (take-take n m s h)) ∙ ascii-take n (take m s) e
+
+-- ---- first octets
+
+-- no end of r lies between two bounds: what is between them is in r together
+abbrev pub apart : ℕ → ℕ → Range → Bool
+apart from upto r = (leb (r .low) from || ltb upto (r .low)) && (ltb (r .high) from || leb upto (r .high))
+
+within-same : (b from upto : ℕ) → from ≤ b → b ≤ upto → (r : Range) → apart from upto r ≡ true → within r b ≡ within r from
+within-same b from upto p q r t = ap₂ _&&_ (low (leb (r .low) from) refl) (high (ltb (r .high) from) refl)
+  where
+    parts : ((leb (r .low) from || ltb upto (r .low)) ≡ true) × ((ltb (r .high) from || leb upto (r .high)) ≡ true)
+    parts = and-true _ _ t
+
+    low : (x : Bool) → leb (r .low) from ≡ x → leb (r .low) b ≡ leb (r .low) from
+    low true e = le-leb (r .low) b (omega (arith, leb-true (r .low) from e)) ∙ sym e
+    low false e = lt-leb (r .low) b (omega (arith, ltb-true upto (r .low) (or-true _ _ (parts .0) e))) ∙ sym e
+
+    high : (x : Bool) → ltb (r .high) from ≡ x → leb b (r .high) ≡ leb from (r .high)
+    high true e = let l = ltb-true (r .high) from e in lt-leb b (r .high) (omega arith) ∙ sym (lt-leb from (r .high) (omega arith))
+    high false e = let l = leb-true upto (r .high) (or-true _ _ (parts .1) e) in le-leb b (r .high) (omega arith) ∙ sym (le-leb from (r .high) (omega arith))
+
+-- the ranges of first octets
+abbrev pub firsts : List Range
+firsts =
+    to 0x00 0x7F
+    ∷ to 0xC2 0xDF
+    ∷ to 0xE0 0xE0
+    ∷ to 0xE1 0xEC
+    ∷ to 0xED 0xED
+    ∷ to 0xEE 0xEF
+    ∷ to 0xF0 0xF0
+    ∷ to 0xF1 0xF3
+    ∷ to 0xF4 0xF4
+    ∷ []
+
+-- no end of a range lies between two bounds: the first octets between them owe the same
+pub start-same : (b from upto : ℕ) → all (λ i. apart from upto) 0 firsts ≡ true → from ≤ b → b ≤ upto → start from ≡ start b
+start-same b from upto t p q =
+    let same : (k : ℕ) → k < 9 → within (getD firsts k tail) b ≡ within (getD firsts k tail) from =
+    λ k h. within-same b from upto p q (getD firsts k tail) (all-at (λ i. apart from upto) firsts tail t k h) in
+    rw (same 0 (omega arith), same 1 (omega arith), same 2 (omega arith), same 3 (omega arith), same 4 (omega arith), same 5 (omega arith), same 6 (omega arith), same 7 (omega arith), same 8 (omega arith))
+
+-- ---- what is owed
+
+owed-never : (b : ℕ) (bs : List ℕ) → start b ≡ never → owed [] (b ∷ bs) ≡ false
+unfolding owed
+owed-never b bs e = ap (λ (s : Start). elim s as (λ x. Bool) [ follow rs ↦ owed rs bs | never ↦ false ]) e
+
+-- nothing is owed: the octet starts a character
+pub owed-first : (n low high b : ℕ) (r : Next) → n ≡ 0 → starts r ≡ start b → (bs : List ℕ) → owed (owing n low high) (b ∷ bs) ≡ goesOn r bs
+owed-first n low high b (Owes o) z e bs = rw z (owed-start b bs (ranges o) (sym e))
+owed-first n low high b Wrong z e bs = rw z (owed-never b bs (sym e))
+
+-- the octet is not in the range that is owed
+pub owed-outside : (n low high b : ℕ) → (n ≡ 0 → ⊥) → within (to low high) b ≡ false → (bs : List ℕ) → owed (owing n low high) (b ∷ bs) ≡ false
+unfolding owed
+owed-outside zero low high b ne e bs = absurd (ne refl)
+owed-outside (suc n) low high b ne e bs = rw e
+
+tails : (n : ℕ) → owing n 0x80 0xBF ≡ replicate n tail
+tails zero = refl
+tails (suc n) = refl
+
+-- the octet is in it
+pub owed-next : (n low high b : ℕ) → (n ≡ 0 → ⊥) → within (to low high) b ≡ true → (bs : List ℕ) → owed (owing n low high) (b ∷ bs) ≡ owed (owing (n - 1) 0x80 0xBF) bs
+unfolding owed
+owed-next zero low high b ne e bs = absurd (ne refl)
+owed-next (suc n) low high b ne e bs =
+    let less : suc n - 1 ≡ n = omega arith in
+    rw (e, less) (ap (λ (rs : List Range). owed rs bs) (sym (tails n)))
+
+pub owed-end : (n low high : ℕ) → owed (owing n low high) [] ≡ eqb n 0
+unfolding owed
+owed-end zero low high = refl
+owed-end (suc n) low high = sym (eqb·suc-zero n)
+
+-- one octet read off the bytes
+pub owed-read : (bytes : List ℕ) (i : ℕ) (o : Owing) (r : Next) → i < length bytes → GoesOn o (getD bytes i 0) r → goesOn r (drop (i + 1) bytes) ≡ owed (ranges o) (drop i bytes)
+owed-read bytes i o r h g =
+    ap (λ (k : ℕ). goesOn r (drop k bytes)) (add-one i) ∙ sym (g (drop (suc i) bytes)) ∙ ap (owed (ranges o)) (sym (drop-cons bytes i 0 h))
+
+-- nothing is owed and the octet is below 128: it is a character
+pub owed-low : (bytes : List ℕ) (i n low high : ℕ) → i < length bytes → n ≡ 0 → getD bytes i 0 < 128 → owed (owing n low high) (drop (i + 1) bytes) ≡ owed (owing n low high) (drop i bytes)
+owed-low bytes i n low high h z l =
+    let b = getD bytes i 0 in
+    let e : start b ≡ follow [] = rw (le-leb 0 b (omega arith), le-leb b 0x7F (omega arith)) in
+    rw z (ap (λ (k : ℕ). owed [] (drop k bytes)) (add-one i) ∙ sym (owed-start b (drop (suc i) bytes) [] e) ∙ ap (owed []) (sym (drop-cons bytes i 0 h)))

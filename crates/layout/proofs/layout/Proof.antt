@@ -1,0 +1,76 @@
+-- `sheet::layout` meets its contract: what was decided, with the buffers cleared past what is used.
+-- Assumes nothing.
+use Rattle.layout.proofs.Whole.{called}
+use borrow.Author.Needs.{needs}
+use Rattle.layout.proofs.layout.Statement.{statement}
+use Rattle.layout.proofs.layout.Tie as tie
+
+decide-requires : tie.Need-decide-requires
+decide-requires c κs = search needs
+
+cast-used : tie.Need-cast-used
+cast-used c = search needs
+
+cast-words : tie.Need-cast-words
+cast-words c = search needs
+
+mul-words : tie.Need-mul-words
+mul-words c = search needs
+
+zero-bytes-from-requires : tie.Need-zero-bytes-from-requires
+zero-bytes-from-requires c κs = search needs
+
+zero-words-from-requires : tie.Need-zero-words-from-requires
+zero-words-from-requires c κs = search needs
+
+clear-dirty-words-requires : tie.Need-clear-dirty-words-requires
+clear-dirty-words-requires c κs = search needs
+
+same-length : tie.Need-same-length
+same-length c = search needs
+
+same-length-2 : tie.Need-same-length-2
+same-length-2 c = search needs
+
+same-length-3 : tie.Need-same-length-3
+same-length-3 c = search needs
+
+returns : tie.Need-returns
+returns c =
+    let at2 = c .before .before in
+    let at6 = at2 .before .before .before .before in
+    let at10 = at6 .before .before .before .before in
+    let at20 = at10 .before .before .before .before .before .before .before .before .before .before in
+    called
+    _
+    _
+    _
+    _
+    _
+    (at20 .decide .last .1 .1 .1 .1 .1 .1 .0)
+    _
+    _
+    _
+    (at20 .decide .ensures)
+    (at20 .decide .kept .1 .1 .1 .1 .0)
+    (at20 .decide .kept .1 .1 .1 .1 .1 .0)
+    (at20 .decide .kept .1 .1 .1 .1 .1 .1 .0)
+    (at10 .zero-bytes-from .ensures)
+    (at6 .zero-words-from .ensures)
+    (at2 .clear-dirty-words .ensures)
+
+pub layout-spec : {M : Type 1} → statement M
+layout-spec =
+    tie.close
+    (tie.spec
+    decide-requires
+    cast-used
+    cast-words
+    mul-words
+    zero-bytes-from-requires
+    zero-words-from-requires
+    clear-dirty-words-requires
+    same-length
+    same-length-2
+    same-length-3
+    returns)

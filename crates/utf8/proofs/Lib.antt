@@ -1,3 +1,0 @@
--- The laws of text bytes, with no code in sight.
-pub mod Tests
-pub mod Octets
