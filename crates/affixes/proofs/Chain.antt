@@ -21,7 +21,7 @@ use Rattle.build.specs.declared.Why.{Why}
 use Rattle.build.specs.declared.Why.the-variants.{Nodes}
 use Rattle.build.specs.declared.Made.{Made}
 use Rattle.build.specs.declared.Made.the-variants.{Node, Refused}
-use Rattle.build.specs.Sheet.{Sheet, Built, counted, older}
+use Rattle.build.specs.Draft.{Draft, Built, counted, older}
 use Rattle.build.specs.Parts.{append, group}
 use Rattle.build.specs.Outcome.{fits, Outcome, outcome, made}
 use Rattle.build.specs.Constructors.{has, hasAll, appendMade, groupMade}
@@ -35,7 +35,7 @@ use Rattle.affixes.specs.Run.{Ready, Shares, Ran}
 use Rattle.affixes.proofs.Layers.{of-below}
 
 -- where a run that began with counts c over the table stands
-pub record At (c : Counts) (table text : List ℕ) (s : Sheet) (c₁ : Counts) (table₁ : List ℕ) : Type 0 where
+pub record At (c : Counts) (table text : List ℕ) (s : Draft) (c₁ : Counts) (table₁ : List ℕ) : Type 0 where
   pub stands : Stands table text s c₁ table₁ text
   pub grown : Grown (counted c table text) s
   pub quiet : s .counts .bytes ≡ c .bytes
@@ -51,18 +51,18 @@ begin {c} {table} {text} r =
       room = record { grows = omega arith; limited = λ l. absurd (omega arith); inside = λ l. absurd (omega arith) };
     }
 
-pub ready : {c : Counts} {table text : List ℕ} {s : Sheet} {c₁ : Counts} {table₁ : List ℕ} → At c table text s c₁ table₁ → Ready c₁ table₁ text
+pub ready : {c : Counts} {table text : List ℕ} {s : Draft} {c₁ : Counts} {table₁ : List ℕ} → At c table text s c₁ table₁ → Ready c₁ table₁ text
 ready {s = s} a =
     let i = a .stands .nodes-inside in
     record { nodes = rw (a .stands .counts, same-words (a .stands)) (omega arith); bytes = rw (a .stands .counts) (a .stands .bytes-inside) }
 
 -- later counts are no fewer
-pub later : {c : Counts} {table text : List ℕ} {s : Sheet} {c₁ : Counts} {table₁ : List ℕ} → At c table text s c₁ table₁ → c .nodes ≤ c₁ .nodes
+pub later : {c : Counts} {table text : List ℕ} {s : Draft} {c₁ : Counts} {table₁ : List ℕ} → At c table text s c₁ table₁ → c .nodes ≤ c₁ .nodes
 unfolding counted
 later a = rw (a .stands .counts) (more-nodes (a .grown))
 
 -- what is added from here on, seen from the start
-pub at-adds : {c : Counts} {table text : List ℕ} {s : Sheet} {c₁ : Counts} {table₁ : List ℕ} {b : Built} → At c table text s c₁ table₁ → Adds s b → Adds (counted c table text) b
+pub at-adds : {c : Counts} {table text : List ℕ} {s : Draft} {c₁ : Counts} {table₁ : List ℕ} {b : Built} → At c table text s c₁ table₁ → Adds s b → Adds (counted c table text) b
 unfolding counted
 at-adds a d = record { grown = then (a .grown) (d .grown); quiet = d .quiet ∙ a .quiet; present = d .present }
 
@@ -97,9 +97,9 @@ no-room c n m lent a b e = by (fits c m 1024 lent) refl
 -- ---- one part
 
 module _ {c : Counts} {table text : List ℕ} (r : Ready c table text) where
-  pub ran-made : (f : Sheet → Built) → Adds (counted c table text) (f (counted c table text)) → {present amount : Bool} → present ≡ true → amount ≡ true → {m : Made} {table′ : List ℕ} → outcome m table′ text ≡ made c table text present amount true f → Ran c table text (f (counted c table text)) m table′
+  pub ran-made : (f : Draft → Built) → Adds (counted c table text) (f (counted c table text)) → {present amount : Bool} → present ≡ true → amount ≡ true → {m : Made} {table′ : List ℕ} → outcome m table′ text ≡ made c table text present amount true f → Ran c table text (f (counted c table text)) m table′
   ran-made f a {present} {amount} p q o =
-      let quiet : f (counted c table text) .sheet .counts .bytes ≡ c .bytes = unfold counted in a .quiet in
+      let quiet : f (counted c table text) .draft .counts .bytes ≡ c .bytes = unfold counted in a .quiet in
       record {
         whole = λ e. o ∙ made-whole c table text present amount f (r .nodes) (r .bytes) p q quiet e;
         short = λ e. ap (λ (x : Outcome). x .made) (o ∙ sym (made-short c table text present amount f (r .nodes) (r .bytes) p q quiet e));
@@ -117,41 +117,41 @@ module _ {c : Counts} {table text : List ℕ} (r : Ready c table text) where
 
 module _ {c : Counts} {table text : List ℕ} where
   -- one part more
-  pub go : {s : Sheet} {c₁ : Counts} {table₁ : List ℕ} → At c table text s c₁ table₁ → (f : Sheet → Built) → Adds s (f s) → {m : Made} {table₂ : List ℕ} → Ran c₁ table₁ text (f (counted c₁ table₁ text)) m table₂ → Ran c table text (f s) m table₂
+  pub go : {s : Draft} {c₁ : Counts} {table₁ : List ℕ} → At c table text s c₁ table₁ → (f : Draft → Built) → Adds s (f s) → {m : Made} {table₂ : List ℕ} → Ran c₁ table₁ text (f (counted c₁ table₁ text)) m table₂ → Ran c table text (f s) m table₂
   go {s} {c₁} {table₁} a f d {m} {table₂} ran =
       let is = stands-counted (a .stands) in
-      let ran′ : Ran c₁ table₁ text (f s) m table₂ = subst (λ (x : Sheet). Ran c₁ table₁ text (f x) m table₂) is ran in
+      let ran′ : Ran c₁ table₁ text (f s) m table₂ = subst (λ (x : Draft). Ran c₁ table₁ text (f x) m table₂) is ran in
       let l = later a in
       let e = a .stands .counts in
       let same = same-words (a .stands) in
       let grows = more-nodes (d .grown) in
-      let n : c₁ .nodes ≤ f s .sheet .counts .nodes = rw e grows in
+      let n : c₁ .nodes ≤ f s .draft .counts .nodes = rw e grows in
       record {
         whole = λ q.
-            let whole = fits-of (c .nodes) (f s .sheet .counts .nodes) 1024 (length table / 4) (omega arith) q in
-            let part = stretch (c₁ .nodes) (f s .sheet .counts .nodes) whole l n (omega arith) in
-            let room : Room (length table) (length text) (s .counts) (f s .sheet .counts) =
-            record { nodes = subst (λ (x : Counts). Fits (x .nodes) (f s .sheet .counts .nodes) 1024 (length table / 4)) e part; used = record { grows = more-bytes (d .grown); limited = λ x. absurd (let y = d .quiet in omega arith); inside = λ x. absurd (let y = d .quiet in omega arith) } } in
+            let whole = fits-of (c .nodes) (f s .draft .counts .nodes) 1024 (length table / 4) (omega arith) q in
+            let part = stretch (c₁ .nodes) (f s .draft .counts .nodes) whole l n (omega arith) in
+            let room : Room (length table) (length text) (s .counts) (f s .draft .counts) =
+            record { nodes = subst (λ (x : Counts). Fits (x .nodes) (f s .draft .counts .nodes) 1024 (length table / 4)) e part; used = record { grows = more-bytes (d .grown); limited = λ x. absurd (let y = d .quiet in omega arith); inside = λ x. absurd (let y = d .quiet in omega arith) } } in
             done (went-added (a .stands) (f s) (d .grown) room (ran′ .whole (rw same (of-fits part))));
-        short = λ q. by q (fits (c₁ .nodes) (f s .sheet .counts .nodes) 1024 (length table₁ / 4)) refl ran′;
+        short = λ q. by q (fits (c₁ .nodes) (f s .draft .counts .nodes) 1024 (length table₁ / 4)) refl ran′;
       }
     where
-      by : fits (c .nodes) (f s .sheet .counts .nodes) 1024 (length table / 4) ≡ false → (b : Bool) → fits (c₁ .nodes) (f s .sheet .counts .nodes) 1024 (length table₁ / 4) ≡ b → Ran c₁ table₁ text (f s) m table₂ → m ≡ Refused Nodes
+      by : fits (c .nodes) (f s .draft .counts .nodes) 1024 (length table / 4) ≡ false → (b : Bool) → fits (c₁ .nodes) (f s .draft .counts .nodes) 1024 (length table₁ / 4) ≡ b → Ran c₁ table₁ text (f s) m table₂ → m ≡ Refused Nodes
       by q true e r =
-          let n : s .counts .nodes ≤ f s .sheet .counts .nodes = more-nodes (d .grown) in
-          let e′ : fits (s .counts .nodes) (f s .sheet .counts .nodes) 1024 (length table / 4) ≡ true = rw (a .stands .counts, same-words (a .stands)) at e in
+          let n : s .counts .nodes ≤ f s .draft .counts .nodes = more-nodes (d .grown) in
+          let e′ : fits (s .counts .nodes) (f s .draft .counts .nodes) 1024 (length table / 4) ≡ true = rw (a .stands .counts, same-words (a .stands)) at e in
           absurd (either _ (of-fits (fits-then (a .room) (fits-of _ _ _ _ n e′))) q)
       by q false e r = r .short e
 
   module _ {b : Built} {m : Made} {table₁ : List ℕ} (r : Ready c table text) (d : Adds (counted c table text) b) (ran : Ran c table text b m table₁) where
     abbrev fit : Bool
-    fit = fits (c .nodes) (b .sheet .counts .nodes) 1024 (length table / 4)
+    fit = fits (c .nodes) (b .draft .counts .nodes) 1024 (length table / 4)
 
-    grows : c .nodes ≤ b .sheet .counts .nodes
+    grows : c .nodes ≤ b .draft .counts .nodes
     unfolding counted
     grows = more-nodes (d .grown)
 
-    quietly : b .sheet .counts .bytes ≡ c .bytes
+    quietly : b .draft .counts .bytes ≡ c .bytes
     unfolding counted
     quietly = d .quiet
 
@@ -159,7 +159,7 @@ module _ {c : Counts} {table text : List ℕ} where
     gone : fit ≡ true → Went table text b m table₁ text
     unfolding counted
     gone e =
-        let room : Room (length table) (length text) (counted c table text .counts) (b .sheet .counts) =
+        let room : Room (length table) (length text) (counted c table text .counts) (b .draft .counts) =
         record { nodes = fits-of _ _ _ _ grows e; used = record { grows = more-bytes (d .grown); limited = λ x. absurd (let y = d .quiet in omega arith); inside = λ x. absurd (let y = d .quiet in omega arith) } } in
         went-added (start c table text (r .nodes) (r .bytes)) b (d .grown) room (ran .whole e)
 
@@ -172,7 +172,7 @@ module _ {c : Counts} {table text : List ℕ} where
         by false q = let s = ran .short q in let z : _≡_ {A = ℕ} 0 1 = cc in absurd (omega arith)
 
     -- its answer taken apart
-    pub at : {c₁ : Counts} {n₁ : NodeNo} → m ≡ Node c₁ n₁ → At c table text (b .sheet) c₁ table₁ × (n₁ .0 ≡ b .node)
+    pub at : {c₁ : Counts} {n₁ : NodeNo} → m ≡ Node c₁ n₁ → At c table text (b .draft) c₁ table₁ × (n₁ .0 ≡ b .node)
     at e =
         let t = taken (gone (had-room e)) e in
         (record { stands = t .0; grown = d .grown; quiet = quietly; room = fits-of _ _ _ _ grows (had-room e) }, t .1)
@@ -186,17 +186,17 @@ module _ {c : Counts} {table text : List ℕ} where
         by false q = q
 
     -- handed on: the whole has no room either
-    pub stop : {why : Why} → m ≡ Refused why → {b′ : Built} → Adds (b .sheet) b′ → Ran c table text b′ m table₁
+    pub stop : {why : Why} → m ≡ Refused why → {b′ : Built} → Adds (b .draft) b′ → Ran c table text b′ m table₁
     stop e {b′} d′ =
-        let none = no-room (c .nodes) (b .sheet .counts .nodes) (b′ .sheet .counts .nodes) (length table / 4) grows (more-nodes (d′ .grown)) (no-fit e) in
+        let none = no-room (c .nodes) (b .draft .counts .nodes) (b′ .draft .counts .nodes) (length table / 4) grows (more-nodes (d′ .grown)) (no-fit e) in
         record { whole = λ q. absurd (either _ q none); short = λ q. ran .short (no-fit e) }
 
 -- ---- a constructor as the next part
 
-module _ {c : Counts} {table text : List ℕ} {s : Sheet} {c₁ : Counts} {table₁ : List ℕ} (a : At c table text s c₁ table₁) where
-  pub go-made : (f : Sheet → Built) → Adds s (f s) → {present amount : Bool} → present ≡ true → amount ≡ true → {m : Made} {table₂ : List ℕ} → outcome m table₂ text ≡ made c₁ table₁ text present amount true f → Ran c table text (f s) m table₂
+module _ {c : Counts} {table text : List ℕ} {s : Draft} {c₁ : Counts} {table₁ : List ℕ} (a : At c table text s c₁ table₁) where
+  pub go-made : (f : Draft → Built) → Adds s (f s) → {present amount : Bool} → present ≡ true → amount ≡ true → {m : Made} {table₂ : List ℕ} → outcome m table₂ text ≡ made c₁ table₁ text present amount true f → Ran c table text (f s) m table₂
   go-made f d p q o =
-      let d′ : Adds (counted c₁ table₁ text) (f (counted c₁ table₁ text)) = subst (λ (x : Sheet). Adds x (f x)) (sym (stands-counted (a .stands))) d in
+      let d′ : Adds (counted c₁ table₁ text) (f (counted c₁ table₁ text)) = subst (λ (x : Draft). Adds x (f x)) (sym (stands-counted (a .stands))) d in
       go a f d (ran-made (ready a) f d′ p q o)
 
   -- a node of the sheet is a present operand
@@ -232,15 +232,15 @@ ran-append {c} {table} {text} k n m h j o =
 
 -- ---- two parts and a group
 
-module _ {c : Counts} {table text : List ℕ} (r : Ready c table text) {b₁ : Built} (d₁ : Adds (counted c table text) b₁) (f₂ : Sheet → Built) (d₂ : Adds (b₁ .sheet) (f₂ (b₁ .sheet))) where
+module _ {c : Counts} {table text : List ℕ} (r : Ready c table text) {b₁ : Built} (d₁ : Adds (counted c table text) b₁) (f₂ : Draft → Built) (d₂ : Adds (b₁ .draft) (f₂ (b₁ .draft))) where
   abbrev b₂ : Built
-  b₂ = f₂ (b₁ .sheet)
+  b₂ = f₂ (b₁ .draft)
 
   abbrev both : Built
-  both = group (b₂ .sheet) (b₂ .node)
+  both = group (b₂ .draft) (b₂ .node)
 
-  d₃ : Adds (b₂ .sheet) both
-  d₃ = group-adds (b₂ .sheet) (b₂ .node) (d₂ .present)
+  d₃ : Adds (b₂ .draft) both
+  d₃ = group-adds (b₂ .draft) (b₂ .node) (d₂ .present)
 
   module _ {m₁ : Made} {table₁ : List ℕ} (ran₁ : Ran c table text b₁ m₁ table₁) where
     pub first-stops : {why : Why} → m₁ ≡ Refused why → Ran c table text both m₁ table₁

@@ -14,7 +14,7 @@ use lib.Seq.{drop-cons}
 use lib.Dec.{ltb}
 use borrow.Author.Tests.{lt-ltb}
 use Rattle.build.specs.declared.Counts.{Counts}
-use Rattle.build.specs.Sheet.{Sheet, Built, older}
+use Rattle.build.specs.Draft.{Draft, Built, older}
 use Rattle.build.specs.Parts.{isNil, concat, append, group}
 use Rattle.build.specs.Constructors.{hasAll}
 use Rattle.build.proofs.Grow.{more-nodes}
@@ -29,25 +29,25 @@ of-below c [] b = refl
 of-below c (n ∷ ns) b = rw (lt-ltb n (c .nodes) (b .0), of-below c ns (b .1)) refl
 
 -- a node that is there stays there
-pub stays-there : {s : Sheet} {b : Built} → Adds s b → {n : ℕ} → n < s .counts .nodes → n < b .sheet .counts .nodes
+pub stays-there : {s : Draft} {b : Built} → Adds s b → {n : ℕ} → n < s .counts .nodes → n < b .draft .counts .nodes
 stays-there a h = let g = more-nodes (a .grown) in omega arith
 
-pub stay-below : {s : Sheet} {b : Built} → Adds s b → (ns : List ℕ) → Below (s .counts .nodes) ns → Below (b .sheet .counts .nodes) ns
+pub stay-below : {s : Draft} {b : Built} → Adds s b → (ns : List ℕ) → Below (s .counts .nodes) ns → Below (b .draft .counts .nodes) ns
 stay-below a ns h = below-more ns (more-nodes (a .grown)) h
 
 -- ---- a list, and whether all of it is Nil
 
-pub list-none : (s : Sheet) (none : ℕ) (ns : List ℕ) → length ns ≡ 0 → list s none ns ≡ older s none
+pub list-none : (s : Draft) (none : ℕ) (ns : List ℕ) → length ns ≡ 0 → list s none ns ≡ older s none
 unfolding list
 list-none s none [] e = refl
 list-none s none (n ∷ ns) e = absurd (omega arith)
 
-pub list-some : (s : Sheet) (none : ℕ) (ns : List ℕ) → (length ns ≡ 0 → ⊥) → list s none ns ≡ concat s ns
+pub list-some : (s : Draft) (none : ℕ) (ns : List ℕ) → (length ns ≡ 0 → ⊥) → list s none ns ≡ concat s ns
 unfolding list
 list-some s none [] e = absurd (e refl)
 list-some s none (n ∷ ns) e = refl
 
-module _ (s : Sheet) (ns : List ℕ) where
+module _ (s : Draft) (ns : List ℕ) where
   pub nil-next : (i : ℕ) → i < length ns → isNil s (getD ns i 0) ≡ true → allNil s (drop i ns) ≡ allNil s (drop (i + 1) ns)
   unfolding allNil
   nil-next i h e = ap (allNil s) (drop-cons ns i 0 h) ∙ rw (e, add-one) refl
@@ -62,7 +62,7 @@ module _ (s : Sheet) (ns : List ℕ) where
 
 -- ---- one layer
 
-module _ (s : Sheet) where
+module _ (s : Draft) where
   abbrev N : ℕ
   N = s .counts .nodes
 
@@ -78,19 +78,19 @@ module _ (s : Sheet) where
 -- ---- in order
 
 -- a group around what was made
-pub grouped : {s : Sheet} {b : Built} → Adds s b → Adds s (group (b .sheet) (b .node))
-grouped {s} {b} a = adds-then a (group-adds (b .sheet) (b .node) (a .present))
+pub grouped : {s : Draft} {b : Built} → Adds s b → Adds s (group (b .draft) (b .node))
+grouped {s} {b} a = adds-then a (group-adds (b .draft) (b .node) (a .present))
 
-pub head-adds : (s : Sheet) (sh : Shared) (before : List ℕ) → sh .none .0 < s .counts .nodes → sh .guard .0 < s .counts .nodes → Below (s .counts .nodes) before → Adds s (head s sh before)
+pub head-adds : (s : Draft) (sh : Shared) (before : List ℕ) → sh .none .0 < s .counts .nodes → sh .guard .0 < s .counts .nodes → Below (s .counts .nodes) before → Adds s (head s sh before)
 unfolding head
 head-adds s sh before n g b =
     let first = list-adds s (sh .none .0) before n b in
     let joined = list s (sh .none .0) before in
-    grouped (adds-then first (guarded-adds (joined .sheet) sh (joined .node) (ltb 1 (length before)) (stays-there first g) (first .present)))
+    grouped (adds-then first (guarded-adds (joined .draft) sh (joined .node) (ltb 1 (length before)) (stays-there first g) (first .present)))
 
-pub tail-adds : (s : Sheet) (sh : Shared) (n : ℕ) (before : List ℕ) → sh .none .0 < s .counts .nodes → n < s .counts .nodes → Below (s .counts .nodes) before → Adds s (tail s sh n before)
+pub tail-adds : (s : Draft) (sh : Shared) (n : ℕ) (before : List ℕ) → sh .none .0 < s .counts .nodes → n < s .counts .nodes → Below (s .counts .nodes) before → Adds s (tail s sh n before)
 unfolding tail
 tail-adds s sh n before e h l =
     let suffixes = list s (sh .none .0) before in
     let first = list-adds s (sh .none .0) before e l in
-    grouped (adds-then first (append-adds (suffixes .sheet) n (suffixes .node) (stays-there first h) (first .present)))
+    grouped (adds-then first (append-adds (suffixes .draft) n (suffixes .node) (stays-there first h) (first .present)))

@@ -8,7 +8,7 @@ use Rattle.build.specs.declared.Counts.{Counts}
 use Rattle.build.specs.declared.Why.the-variants.{Nodes}
 use Rattle.build.specs.declared.Made.{Made}
 use Rattle.build.specs.declared.Made.the-variants.{Refused}
-use Rattle.build.specs.Sheet.{Built}
+use Rattle.build.specs.Draft.{Built}
 use Rattle.build.specs.Outcome.{fits, outcome, added}
 use Rattle.affixes.specs.declared.Shared.{Shared}
 
@@ -24,5 +24,5 @@ pub record Shares (c : Counts) (sh : Shared) : Type 0 where
 
 -- what was built stands over the table if there is room for it; else the refusal
 pub record Ran (c : Counts) (table text : List ℕ) (b : Built) (r : Made) (table′ : List ℕ) : Type 0 where
-  pub whole : fits (c .nodes) (b .sheet .counts .nodes) 1024 (length table / 4) ≡ true → outcome r table′ text ≡ added b table text
-  pub short : fits (c .nodes) (b .sheet .counts .nodes) 1024 (length table / 4) ≡ false → r ≡ Refused Nodes
+  pub whole : fits (c .nodes) (b .draft .counts .nodes) 1024 (length table / 4) ≡ true → outcome r table′ text ≡ added b table text
+  pub short : fits (c .nodes) (b .draft .counts .nodes) 1024 (length table / 4) ≡ false → r ≡ Refused Nodes

@@ -15,7 +15,7 @@ use Rattle.choice.proofs.Tests.{and-true}
 use Rattle.build.specs.declared.Counts.{Counts}
 use Rattle.build.specs.declared.Why.the-variants.{Sizes}
 use Rattle.build.specs.declared.Made.the-variants.{Refused}
-use Rattle.build.specs.Sheet.{Sheet, Built, counted}
+use Rattle.build.specs.Draft.{Draft, Built, counted}
 use Rattle.build.specs.Parts as parts
 use Rattle.build.specs.Outcome.{outcome, made}
 use Rattle.build.specs.Constructors.{has, hasAll, nestRight}
@@ -36,17 +36,17 @@ use Rattle.block.proofs.Meaning.{Stand, stand-still, below-still, bare-
 
 module _ (b : Block) (sh : Shared) (prefixes suffixes : List ℕ) (nests : List Bool) (p : b .amount .0 ≤ 1000) (w : b .way ≤ 1) where
   -- the alternative's document over the documents of a sheet's nodes
-  abbrev there-doc : Sheet → ℕ → Doc
+  abbrev there-doc : Draft → ℕ → Doc
   there-doc s split = alternativeDoc (b .amount .0) (b .way) (docOf s (b .body .0)) (map (docOf s) prefixes) (map (docOf s) suffixes) nests split
 
   -- Core with its wraps, and Tail
-  abbrev rest-of : Sheet → ℕ → Bool → Built
+  abbrev rest-of : Draft → ℕ → Bool → Built
   rest-of t split q =
       let middle = core t b sh q (drop split suffixes) in
-      let wrapped = wraps (middle .sheet) b (middle .node) (drop split prefixes) (drop split nests) in
-      tail (wrapped .sheet) sh (wrapped .node) (take split suffixes)
+      let wrapped = wraps (middle .draft) b (middle .node) (drop split prefixes) (drop split nests) in
+      tail (wrapped .draft) sh (wrapped .node) (take split suffixes)
 
-  behind-makes : {t : Sheet} → Clean t → Stand t sh → b .body .0 < t .counts .nodes → Below (t .counts .nodes) prefixes → Below (t .counts .nodes) suffixes → (split : ℕ) (q : Bool)
+  behind-makes : {t : Draft} → Clean t → Stand t sh → b .body .0 < t .counts .nodes → Below (t .counts .nodes) prefixes → Below (t .counts .nodes) suffixes → (split : ℕ) (q : Bool)
       → Makes t (rest-of t split q) (tailDoc (wrapsDoc (b .amount .0) (b .way) (coreDoc (b .amount .0) (b .way) (docOf t (b .body .0)) q (map (docOf t) (drop split suffixes))) (map (docOf t) (drop split prefixes)) (drop split nests)) (map (docOf t) (take split suffixes)))
   behind-makes {t} c h l k j split q =
       let middle = core-makes c sh h b p w q (drop split suffixes) l (below-drop _ split suffixes j) in
@@ -57,27 +57,27 @@ module _ (b : Block) (sh : Shared) (prefixes suffixes : List ℕ) (nests : List 
       let tail-is = ap₂ tailDoc (wrapped .unfolds) (docs-still c wrapped firsts (below-take _ split suffixes j)) in
       after wrapped (meaning tail-is (tail-makes (wrapped .clean) sh (stand-still c wrapped h) _ firsts (wrapped .present) (below-still wrapped firsts (below-take _ split suffixes j))))
 
-  alternative-makes : {s : Sheet} → Clean s → Stand s sh → b .body .0 < s .counts .nodes → Below (s .counts .nodes) prefixes → Below (s .counts .nodes) suffixes → (split : ℕ) → Makes s (alternative s b sh prefixes suffixes nests split) (there-doc s split)
+  alternative-makes : {s : Draft} → Clean s → Stand s sh → b .body .0 < s .counts .nodes → Below (s .counts .nodes) prefixes → Below (s .counts .nodes) suffixes → (split : ℕ) → Makes s (alternative s b sh prefixes suffixes nests split) (there-doc s split)
   unfolding alternative alternativeDoc
   alternative-makes {s} c h l k j split =
       let before = take split prefixes in
       let front = head-makes c sh h before (below-take _ split prefixes k) in
-      let q = bare (head s sh before .sheet) before in
+      let q = bare (head s sh before .draft) before in
       let rest = behind-makes (front .clean) (stand-still c front h) (there front l) (below-still front prefixes k) (below-still front suffixes j) split q in
       let join = append-makes (rest .clean) _ _ (there rest (front .present)) (rest .present) in
-      let docs : (ns : List ℕ) → Below (s .counts .nodes) ns → map (docOf (head s sh before .sheet)) ns ≡ map (docOf s) ns = λ ns x. docs-still c front ns x in
+      let docs : (ns : List ℕ) → Below (s .counts .nodes) ns → map (docOf (head s sh before .draft)) ns ≡ map (docOf s) ns = λ ns x. docs-still c front ns x in
       let head-is = still (front .clean) rest _ (front .present) ∙ front .unfolds ∙ ap headDoc (map-take s split prefixes) in
       let nils = bare-is (front .clean) before (below-still front before (below-take _ split prefixes k)) ∙ ap bareDoc (docs before (below-take _ split prefixes k) ∙ map-take s split prefixes) in
       let body-is = still c front (b .body .0) l in
       let behind = docs (drop split suffixes) (below-drop _ split suffixes j) ∙ map-drop s split suffixes in
       let others = docs (drop split prefixes) (below-drop _ split prefixes k) ∙ map-drop s split prefixes in
       let firsts = docs (take split suffixes) (below-take _ split suffixes j) ∙ map-take s split suffixes in
-      let whole : appendDoc (docOf (rest-of (head s sh before .sheet) split q .sheet) (head s sh before .node)) (docOf (rest-of (head s sh before .sheet) split q .sheet) (rest-of (head s sh before .sheet) split q .node)) ≡ there-doc s split =
+      let whole : appendDoc (docOf (rest-of (head s sh before .draft) split q .draft) (head s sh before .node)) (docOf (rest-of (head s sh before .draft) split q .draft) (rest-of (head s sh before .draft) split q .node)) ≡ there-doc s split =
       ap₂ appendDoc head-is
       (rest .unfolds ∙ (λ i. tailDoc (wrapsDoc (b .amount .0) (b .way) (coreDoc (b .amount .0) (b .way) (body-is i) (nils i) (behind i)) (others i) (drop split nests)) (firsts i))) in
       after front (after rest (meaning whole join))
 
-  unions-makes : {s : Sheet} → Clean s → Stand s sh → b .body .0 < s .counts .nodes → Below (s .counts .nodes) prefixes → Below (s .counts .nodes) suffixes → (n split : ℕ) → n < s .counts .nodes → Makes s (unions s b sh prefixes suffixes nests n split) (unionsDoc (b .amount .0) (b .way) (docOf s (b .body .0)) (map (docOf s) prefixes) (map (docOf s) suffixes) nests (docOf s n) split)
+  unions-makes : {s : Draft} → Clean s → Stand s sh → b .body .0 < s .counts .nodes → Below (s .counts .nodes) prefixes → Below (s .counts .nodes) suffixes → (n split : ℕ) → n < s .counts .nodes → Makes s (unions s b sh prefixes suffixes nests n split) (unionsDoc (b .amount .0) (b .way) (docOf s (b .body .0)) (map (docOf s) prefixes) (map (docOf s) suffixes) nests (docOf s n) split)
   unfolding unions unionsDoc
   unions-makes c h l k j n zero x = older-makes c n x
   unions-makes {s} c h l k j n (suc split) x =
@@ -92,7 +92,7 @@ module _ (b : Block) (sh : Shared) (prefixes suffixes : List ℕ) (nests : List 
 
 module _ (b : Block) (prefixes suffixes : List ℕ) (nests : List Bool) (p : b .amount .0 ≤ 1000) (w : b .way ≤ 1) where
   -- the Nil, the Fail and the guard come first
-  layouts-makes : {s : Sheet} → Clean s → b .body .0 < s .counts .nodes → Below (s .counts .nodes) prefixes → Below (s .counts .nodes) suffixes → (others : ℕ) → Makes s (layouts s b prefixes suffixes nests others) (let before = map (docOf s) prefixes in let behind = map (docOf s) suffixes in let body = docOf s (b .body .0) in unionsDoc (b .amount .0) (b .way) body before behind nests (alternativeDoc (b .amount .0) (b .way) body before behind nests (suc others)) others)
+  layouts-makes : {s : Draft} → Clean s → b .body .0 < s .counts .nodes → Below (s .counts .nodes) prefixes → Below (s .counts .nodes) suffixes → (others : ℕ) → Makes s (layouts s b prefixes suffixes nests others) (let before = map (docOf s) prefixes in let behind = map (docOf s) suffixes in let body = docOf s (b .body .0) in unionsDoc (b .amount .0) (b .way) body before behind nests (alternativeDoc (b .amount .0) (b .way) body before behind nests (suc others)) others)
   unfolding layouts
   layouts-makes {s} c l k j others =
       let none = nil-makes c in
@@ -101,8 +101,8 @@ module _ (b : Block) (prefixes suffixes : List ℕ) (nests : List Bool) (p : b .
       let none-there = there (fail-makes (none .clean)) (none .present) in
       let alt = flatAlt-makes (failing .clean) _ _ (failing .present) none-there in
       let guard = after failing (meaning (ap₂ flatAlt (failing .unfolds) none-is) alt) in
-      let sh : Shared = record { none = record { 0 = parts.nil s .node }; guard = record { 0 = parts.flatAlt (parts.fail (parts.nil s .sheet) .sheet) (parts.fail (parts.nil s .sheet) .node) (parts.nil s .node) .node } } in
-      let h : Stand (parts.flatAlt (parts.fail (parts.nil s .sheet) .sheet) (parts.fail (parts.nil s .sheet) .node) (parts.nil s .node) .sheet) sh =
+      let sh : Shared = record { none = record { 0 = parts.nil s .node }; guard = record { 0 = parts.flatAlt (parts.fail (parts.nil s .draft) .draft) (parts.fail (parts.nil s .draft) .node) (parts.nil s .node) .node } } in
+      let h : Stand (parts.flatAlt (parts.fail (parts.nil s .draft) .draft) (parts.fail (parts.nil s .draft) .node) (parts.nil s .node) .draft) sh =
       record { none = there alt none-there; guard = guard .present; none-is = still (failing .clean) alt _ none-there ∙ none-is; guard-is = guard .unfolds } in
       let first = alternative-makes b sh prefixes suffixes nests p w (guard .clean) h (there guard l) (below-still guard prefixes k) (below-still guard suffixes j) (suc others) in
       let all = after guard first in
@@ -117,7 +117,7 @@ module _ (b : Block) (prefixes suffixes : List ℕ) (nests : List Bool) (p : b .
       after all (meaning (λ i. unionsDoc (b .amount .0) (b .way) (body-is i) (before i) (behind i) nests (d i) others) rest)
 
 -- the whole: none gives the body
-pub block-makes : {s : Sheet} → Clean s → (b : Block) (prefixes suffixes : List ℕ) (nests : List Bool) → b .amount .0 ≤ 1000 → b .way ≤ 1 → b .body .0 < s .counts .nodes → Below (s .counts .nodes) prefixes → Below (s .counts .nodes) suffixes → Makes s (blockOf s b prefixes suffixes nests) (blockDoc (b .amount .0) (b .way) (docOf s (b .body .0)) (map (docOf s) prefixes) (map (docOf s) suffixes) nests)
+pub block-makes : {s : Draft} → Clean s → (b : Block) (prefixes suffixes : List ℕ) (nests : List Bool) → b .amount .0 ≤ 1000 → b .way ≤ 1 → b .body .0 < s .counts .nodes → Below (s .counts .nodes) prefixes → Below (s .counts .nodes) suffixes → Makes s (blockOf s b prefixes suffixes nests) (blockDoc (b .amount .0) (b .way) (docOf s (b .body .0)) (map (docOf s) prefixes) (map (docOf s) suffixes) nests)
 unfolding blockOf blockDoc
 block-makes c b [] suffixes nests p w l k j = older-makes c (b .body .0) l
 block-makes {s} c b (x ∷ ps) suffixes nests p w l k j =

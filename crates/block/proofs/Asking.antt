@@ -20,7 +20,7 @@ use Rattle.build.specs.declared.Made.{Made}
 use Rattle.build.specs.declared.Made.the-variants.{Node, Refused}
 use Rattle.build.specs.declared.Asked.{Asked}
 use Rattle.build.specs.declared.Asked.the-variants.{Granted, Denied}
-use Rattle.build.specs.Sheet.{Sheet, Built, counted, older}
+use Rattle.build.specs.Draft.{Draft, Built, counted, older}
 use Rattle.build.specs.Outcome.{past, fits, asked, outcome, made}
 use Rattle.build.specs.Constructors.{has, hasAll, nestRight}
 use Rattle.build.proofs.Room.{Passed, passed, fits-of}
@@ -54,12 +54,12 @@ asked-more c words bytes present amount text n m used why a b e =
     last false false h k x = x
 
 -- without affixes the body, else the layouts
-block-none : (s : Sheet) (b : Block) (ps ss : List ℕ) (qs : List Bool) → length ps ≡ 0 → blockOf s b ps ss qs ≡ older s (b .body .0)
+block-none : (s : Draft) (b : Block) (ps ss : List ℕ) (qs : List Bool) → length ps ≡ 0 → blockOf s b ps ss qs ≡ older s (b .body .0)
 unfolding blockOf
 block-none s b [] ss qs e = refl
 block-none s b (p ∷ ps) ss qs e = absurd (omega arith)
 
-block-some : (s : Sheet) (b : Block) (ps ss : List ℕ) (qs : List Bool) → (length ps ≡ 0 → ⊥) → blockOf s b ps ss qs ≡ layouts s b ps ss qs (length ps - 1)
+block-some : (s : Draft) (b : Block) (ps ss : List ℕ) (qs : List Bool) → (length ps ≡ 0 → ⊥) → blockOf s b ps ss qs ≡ layouts s b ps ss qs (length ps - 1)
 unfolding blockOf
 block-some s b [] ss qs e = absurd (e refl)
 block-some s b (p ∷ ps) ss qs e = ap (layouts s b (p ∷ ps) ss qs) (omega arith)
@@ -71,7 +71,7 @@ module _ (c : Counts) (table text : List ℕ) (b : Block) (ps ss : List ℕ) (qs
   abbrev right : Bool
   right = nestRight (b .amount .0) (b .way)
 
-  abbrev f : Sheet → Built
+  abbrev f : Draft → Built
   f s = blockOf s b ps ss qs
 
   abbrev few-asked : Asked
@@ -84,11 +84,11 @@ module _ (c : Counts) (table text : List ℕ) (b : Block) (ps ss : List ℕ) (qs
       (ltb-true (b .body .0) (c .nodes) (x .0), y .0, y .1)
 
   -- the whole adds no byte, and what is asked at least
-  enough : present ≡ true → (c .nodes + least (length ps) ≤ f (counted c table text) .sheet .counts .nodes) × (f (counted c table text) .sheet .counts .bytes ≡ c .bytes)
+  enough : present ≡ true → (c .nodes + least (length ps) ≤ f (counted c table text) .draft .counts .nodes) × (f (counted c table text) .draft .counts .bytes ≡ c .bytes)
   unfolding blockOf counted
   enough e = by ps (all-there e)
     where
-      by : (xs : List ℕ) → (b .body .0 < c .nodes) × (hasAll c xs ≡ true) × (hasAll c ss ≡ true) → (c .nodes + least (length xs) ≤ blockOf (counted c table text) b xs ss qs .sheet .counts .nodes) × (blockOf (counted c table text) b xs ss qs .sheet .counts .bytes ≡ c .bytes)
+      by : (xs : List ℕ) → (b .body .0 < c .nodes) × (hasAll c xs ≡ true) × (hasAll c ss ≡ true) → (c .nodes + least (length xs) ≤ blockOf (counted c table text) b xs ss qs .draft .counts .nodes) × (blockOf (counted c table text) b xs ss qs .draft .counts .bytes ≡ c .bytes)
       by [] h = (omega arith, refl)
       by (x ∷ xs) h =
           let three = layouts-three (counted c table text) b (x ∷ xs) ss qs (length xs) (h .0) (below-of c (x ∷ xs) (h .1)) (below-of c ss (h .2)) in
@@ -103,7 +103,7 @@ module _ (c : Counts) (table text : List ℕ) (b : Block) (ps ss : List ℕ) (qs
   pub within-refused : (why : Why) → few-asked ≡ Denied why → outcome (Refused why) table text ≡ made c table text present right true f
   within-refused why d = made-denied c table text present right true f _ _ why refl refl (by present refl)
     where
-      by : (q : Bool) → present ≡ q → asked c (length table) (length text) present right true (f (counted c table text) .sheet .counts .nodes) (f (counted c table text) .sheet .counts .bytes) ≡ Denied why
+      by : (q : Bool) → present ≡ q → asked c (length table) (length text) present right true (f (counted c table text) .draft .counts .nodes) (f (counted c table text) .draft .counts .bytes) ≡ Denied why
       by true q =
           let n = enough q in
           rw (n .1) (asked-more c (length table) (length text) present right true (c .nodes + least (length ps)) _ (c .bytes) why (omega arith) (n .0) (rw (add-zero (c .bytes)) at d))

@@ -15,7 +15,7 @@ use Rattle.build.specs.declared.Counts.{Counts}
 use Rattle.build.specs.declared.Why.{Why}
 use Rattle.build.specs.declared.Made.{Made}
 use Rattle.build.specs.declared.Made.the-variants.{Node, Refused}
-use Rattle.build.specs.Sheet.{Sheet, Built, counted, older}
+use Rattle.build.specs.Draft.{Draft, Built, counted, older}
 use Rattle.build.specs.Parts.{union}
 use Rattle.build.specs.Outcome.{outcome}
 use Rattle.build.specs.Constructors.{hasAll, unionMade}
@@ -35,7 +35,7 @@ use Rattle.affixes.proofs.Chain.{At, begin, ready, later, start-node, start-lis
 use Rattle.block.proofs.Steps.{bodied-later}
 
 -- a run that has come to its end
-pub ran-at : {c : Counts} {table text : List ℕ} (b : Built) {c₁ : Counts} {n₁ : NodeNo} {table₁ : List ℕ} → At c table text (b .sheet) c₁ table₁ → n₁ .0 ≡ b .node → Ran c table text b (Node c₁ n₁) table₁
+pub ran-at : {c : Counts} {table text : List ℕ} (b : Built) {c₁ : Counts} {n₁ : NodeNo} {table₁ : List ℕ} → At c table text (b .draft) c₁ table₁ → n₁ .0 ≡ b .node → Ran c table text b (Node c₁ n₁) table₁
 ran-at b {c₁} {n₁} a e =
     let s = a .stands in
     record {
@@ -50,7 +50,7 @@ below-at [] i b h = absurd (not-suc-le-zero h)
 below-at (n ∷ ns) zero b h = b .0
 below-at (n ∷ ns) (suc i) b h = below-at ns i (b .1) (le-of-suc-le-suc h)
 
-wraps-next : (s : Sheet) (b : Block) (n : ℕ) (ps : List ℕ) (qs : List Bool) (i : ℕ) → length qs ≡ length ps → i < length ps → wraps s b n (drop i ps) (drop i qs) ≡ (let inner = wraps s b n (drop (suc i) ps) (drop (suc i) qs) in wrap (inner .sheet) b (inner .node) (getD ps i 0) (getD qs i false))
+wraps-next : (s : Draft) (b : Block) (n : ℕ) (ps : List ℕ) (qs : List Bool) (i : ℕ) → length qs ≡ length ps → i < length ps → wraps s b n (drop i ps) (drop i qs) ≡ (let inner = wraps s b n (drop (suc i) ps) (drop (suc i) qs) in wrap (inner .draft) b (inner .node) (getD ps i 0) (getD qs i false))
 unfolding wraps
 wraps-next s b n [] qs i e h = absurd (not-suc-le-zero h)
 wraps-next s b n (p ∷ ps) [] i e h = absurd (omega arith)
@@ -58,22 +58,22 @@ wraps-next s b n (p ∷ ps) (q ∷ qs) zero e h = refl
 wraps-next s b n (p ∷ ps) (q ∷ qs) (suc i) e h = wraps-next s b n ps qs i (omega arith) (le-of-suc-le-suc h)
 
 -- nothing more is added
-none-more : {s : Sheet} {b : Built} → Adds s b → Adds (b .sheet) b
-none-more {b = b} a = record { grown = same (b .sheet); quiet = refl; present = a .present }
+none-more : {s : Draft} {b : Built} → Adds s b → Adds (b .draft) b
+none-more {b = b} a = record { grown = same (b .draft); quiet = refl; present = a .present }
 
 -- the wraps that are left
-wraps-rest : (s : Sheet) (b : Block) (n : ℕ) (ps : List ℕ) (qs : List Bool) (i : ℕ) → length qs ≡ length ps → n < s .counts .nodes → Below (s .counts .nodes) ps → Adds (wraps s b n (drop i ps) (drop i qs) .sheet) (wraps s b n ps qs)
+wraps-rest : (s : Draft) (b : Block) (n : ℕ) (ps : List ℕ) (qs : List Bool) (i : ℕ) → length qs ≡ length ps → n < s .counts .nodes → Below (s .counts .nodes) ps → Adds (wraps s b n (drop i ps) (drop i qs) .draft) (wraps s b n ps qs)
 unfolding wraps
 wraps-rest s b n ps qs zero e h l = none-more (wraps-adds s b n ps qs h l)
 wraps-rest s b n [] qs (suc i) e h l = none-more (wraps-adds s b n [] qs h l)
 wraps-rest s b n (p ∷ ps) [] (suc i) e h l = absurd (omega arith)
 wraps-rest s b n (p ∷ ps) (q ∷ qs) (suc i) e h l =
     let inner = wraps-adds s b n ps qs h (l .1) in
-    adds-then (wraps-rest s b n ps qs i (omega arith) h (l .1)) (wrap-adds (wraps s b n ps qs .sheet) b (wraps s b n ps qs .node) p q (inner .present) (stays-there inner (l .0)))
+    adds-then (wraps-rest s b n ps qs i (omega arith) h (l .1)) (wrap-adds (wraps s b n ps qs .draft) b (wraps s b n ps qs .node) p q (inner .present) (stays-there inner (l .0)))
 
 -- the affixes from i on are wrapped
 pub record Wrapping (c : Counts) (table text : List ℕ) (b : Block) (n : NodeNo) (ps : List ℕ) (qs : List Bool) (i : ℕ) (c₁ : Counts) (n₁ : NodeNo) (table₁ : List ℕ) : Type 0 where
-  pub place : At c table text (wraps (counted c table text) b (n .0) (drop i ps) (drop i qs) .sheet) c₁ table₁
+  pub place : At c table text (wraps (counted c table text) b (n .0) (drop i ps) (drop i qs) .draft) c₁ table₁
   pub node : n₁ .0 ≡ wraps (counted c table text) b (n .0) (drop i ps) (drop i qs) .node
 
 -- a turn goes from i to i - 1, and ends at 0
@@ -85,7 +85,7 @@ module _ (c : Counts) (table text : List ℕ) (b : Block) (n : NodeNo) (ps : Lis
   wrap-zero h {c₁} {n₁} {table₁} w = subst (λ (j : ℕ). Wrapping c table text b n ps qs j c₁ n₁ table₁) (omega arith) w
 
 module _ {c : Counts} {table text : List ℕ} (r : Ready c table text) {b : Block} (k : Bodied c b) (n : NodeNo) (h : n .0 < c .nodes) (ps : List ℕ) (qs : List Bool) (l : hasAll c ps ≡ true) (e : length qs ≡ length ps) where
-  abbrev s₀ : Sheet
+  abbrev s₀ : Draft
   s₀ = counted c table text
 
   abbrev so-far : ℕ → Built
@@ -110,7 +110,7 @@ module _ {c : Counts} {table text : List ℕ} (r : Ready c table text) {b : Bloc
     inner : Adds s₀ (so-far (suc i))
     inner = far-adds (suc i)
 
-    prefix-there : getD ps i 0 < so-far (suc i) .sheet .counts .nodes
+    prefix-there : getD ps i 0 < so-far (suc i) .draft .counts .nodes
     prefix-there = stays-there inner (below-at ps i below m)
 
     pub wrap-asks : Ready c₁ table₁ text × Bodied c₁ b × (n₁ .0 < c₁ .nodes) × (getD ps i 0 < c₁ .nodes)
@@ -120,7 +120,7 @@ module _ {c : Counts} {table text : List ℕ} (r : Ready c table text) {b : Bloc
       one-more : Ran c table text (so-far i) m₂ table₂
       one-more =
           rw (wraps-next s₀ b (n .0) ps qs i e m)
-          (go (w .place) (λ s. wrap s b (so-far (suc i) .node) (getD ps i 0) (getD qs i false)) (wrap-adds (so-far (suc i) .sheet) b (so-far (suc i) .node) (getD ps i 0) (getD qs i false) (inner .present) prefix-there) (rw (w .node) at ran))
+          (go (w .place) (λ s. wrap s b (so-far (suc i) .node) (getD ps i 0) (getD qs i false)) (wrap-adds (so-far (suc i) .draft) b (so-far (suc i) .node) (getD ps i 0) (getD qs i false) (inner .present) prefix-there) (rw (w .node) at ran))
 
       pub wrap-stop : {why : Why} → m₂ ≡ Refused why → Ran c table text (wraps s₀ b (n .0) ps qs) m₂ table₂
       wrap-stop x = stop r (far-adds i) one-more x (wraps-rest s₀ b (n .0) ps qs i e (start-node r h) below)
@@ -137,7 +137,7 @@ pub on-hand : {c : Counts} {table text : List ℕ} {b : Block} {sh : Shared} {ps
 on-hand {ps = ps} {ss = ss} r k =
     record { body = start-node r (k .bodied .body); none = start-node r (k .shares .none); guard = start-node r (k .shares .guard); before = start-list r ps (k .before); behind = start-list r ss (k .behind) }
 
-pub hand-later : {c : Counts} {table text : List ℕ} {s : Sheet} {c₁ : Counts} {table₁ : List ℕ} {b : Block} {sh : Shared} {ps ss : List ℕ} → At c table text s c₁ table₁ → Hand c b sh ps ss → Hand c₁ b sh ps ss
+pub hand-later : {c : Counts} {table text : List ℕ} {s : Draft} {c₁ : Counts} {table₁ : List ℕ} {b : Block} {sh : Shared} {ps ss : List ℕ} → At c table text s c₁ table₁ → Hand c b sh ps ss → Hand c₁ b sh ps ss
 hand-later {c} {c₁ = c₁} {ps = ps} {ss = ss} a k =
     let l = later a in
     record {
@@ -166,7 +166,7 @@ alternative-turn c table text b sh ps ss qs split h {m} {table₁} ran =
     subst (λ (j : ℕ). Ran c table text (alternative (counted c table text) b sh ps ss qs j) m table₁) (omega arith) ran
 
 module _ {c : Counts} {table text : List ℕ} (r : Ready c table text) {b : Block} {sh : Shared} {ps ss : List ℕ} (k : Hand c b sh ps ss) (qs : List Bool) (whole : Built) where
-  abbrev first : Sheet
+  abbrev first : Draft
   first = counted c table text
 
   abbrev Still : ℕ → Counts → NodeNo → List ℕ → Type 0
@@ -176,14 +176,14 @@ module _ {c : Counts} {table text : List ℕ} (r : Ready c table text) {b : Bloc
   left-start n split h e = record { place = begin r; there = h; ends = e }
 
   module _ (split : ℕ) {c₁ : Counts} {n₁ : NodeNo} {table₁ : List ℕ} (w : Still (suc split) c₁ n₁ table₁) where
-    abbrev s₁ : Sheet
+    abbrev s₁ : Draft
     s₁ = counted c₁ table₁ text
 
     abbrev other : Built
     other = alternative s₁ b sh ps ss qs (suc split)
 
     abbrev joined : Built
-    joined = union (other .sheet) (n₁ .0) (other .node)
+    joined = union (other .draft) (n₁ .0) (other .node)
 
     pub left-asks : Ready c₁ table₁ text × Hand c₁ b sh ps ss
     left-asks = (ready (w .place), hand-later (w .place) k)
@@ -197,15 +197,15 @@ module _ {c : Counts} {table text : List ℕ} (r : Ready c table text) {b : Bloc
     other-adds : Adds s₁ other
     other-adds = alternative-adds b sh ps ss qs s₁ (suc split) on
 
-    joined-adds : Adds (other .sheet) joined
-    joined-adds = union-adds (other .sheet) (n₁ .0) (other .node)
+    joined-adds : Adds (other .draft) joined
+    joined-adds = union-adds (other .draft) (n₁ .0) (other .node)
 
-    rest-is : unions (joined .sheet) b sh ps ss qs (joined .node) split ≡ whole
+    rest-is : unions (joined .draft) b sh ps ss qs (joined .node) split ≡ whole
     unfolding unions
     rest-is = w .ends
 
-    rest-adds : Adds (joined .sheet) whole
-    rest-adds = rw (← rest-is) (unions-adds b sh ps ss qs (joined .sheet) (joined .node) split (joined-adds .present) (on-still (adds-then other-adds joined-adds) on))
+    rest-adds : Adds (joined .draft) whole
+    rest-adds = rw (← rest-is) (unions-adds b sh ps ss qs (joined .draft) (joined .node) split (joined-adds .present) (on-still (adds-then other-adds joined-adds) on))
 
     module _ {m₂ : Made} {table₂ : List ℕ} (ran : Ran c₁ table₁ text other m₂ table₂) where
       ran-other : Ran c table text other m₂ table₂
@@ -231,9 +231,9 @@ module _ {c : Counts} {table text : List ℕ} (r : Ready c table text) {b : Bloc
             let t = at r all-adds ran-joined x in
             let is = stands-counted (t .0 .stands) in
             record {
-              place = subst (λ (s : Sheet). At c table text s c₃ table₃) (sym is) (t .0);
+              place = subst (λ (s : Draft). At c table text s c₃ table₃) (sym is) (t .0);
               there = rw (t .1) (counted-node (t .0) (joined-adds .present));
-              ends = ap₂ (λ (s : Sheet) (n : ℕ). unions s b sh ps ss qs n split) is (t .1) ∙ rest-is;
+              ends = ap₂ (λ (s : Draft) (n : ℕ). unions s b sh ps ss qs n split) is (t .1) ∙ rest-is;
             }
 
   pub left-end : {c₁ : Counts} {n₁ : NodeNo} {table₁ : List ℕ} → Still 0 c₁ n₁ table₁ → Ran c table text whole (Node c₁ n₁) table₁

@@ -9,7 +9,7 @@ use lib.ListN.{length, take, drop}
 use lib.Dec.{ltb}
 use Rattle.choice.specs.Pick.{pick}
 use Rattle.table.specs.Document.{Doc, nil}
-use Rattle.build.specs.Sheet.{Sheet, Built}
+use Rattle.build.specs.Draft.{Draft, Built}
 use Rattle.build.specs.Documents.{appendDoc, nestDoc, concatDoc}
 use Rattle.build.proofs.Grow.{more-nodes}
 use Rattle.build.proofs.Joins.{Below, below-more}
@@ -25,31 +25,31 @@ use Rattle.block.specs.Documents.{allNilDoc, bareDoc, guardDoc, guardedD
 
 -- ---- one layer
 
-pub map-length : (s : Sheet) (ns : List ℕ) → length (map (docOf s) ns) ≡ length ns
+pub map-length : (s : Draft) (ns : List ℕ) → length (map (docOf s) ns) ≡ length ns
 map-length s [] = refl
 map-length s (n ∷ ns) = ap suc (map-length s ns)
 
 -- older nodes that were all Nil
-all-nil-is : {s : Sheet} → Clean s → (ns : List ℕ) → Below (s .counts .nodes) ns → allNil s ns ≡ allNilDoc (map (docOf s) ns)
+all-nil-is : {s : Draft} → Clean s → (ns : List ℕ) → Below (s .counts .nodes) ns → allNil s ns ≡ allNilDoc (map (docOf s) ns)
 unfolding allNil allNilDoc
 all-nil-is c [] b = refl
 all-nil-is c (n ∷ ns) b = ap₂ _&&_ (sym (nil-is c n (b .0))) (all-nil-is c ns (b .1))
 
-pub bare-is : {s : Sheet} → Clean s → (ns : List ℕ) → Below (s .counts .nodes) ns → bare s ns ≡ bareDoc (map (docOf s) ns)
+pub bare-is : {s : Draft} → Clean s → (ns : List ℕ) → Below (s .counts .nodes) ns → bare s ns ≡ bareDoc (map (docOf s) ns)
 unfolding bare bareDoc
 bare-is {s} c ns b = ap₂ (λ (n : ℕ) (q : Bool). ltb 1 n && q) (sym (map-length s ns)) (all-nil-is c ns b)
 
-pub map-take : (s : Sheet) (k : ℕ) (ns : List ℕ) → map (docOf s) (take k ns) ≡ take k (map (docOf s) ns)
+pub map-take : (s : Draft) (k : ℕ) (ns : List ℕ) → map (docOf s) (take k ns) ≡ take k (map (docOf s) ns)
 map-take s zero ns = refl
 map-take s (suc k) [] = refl
 map-take s (suc k) (n ∷ ns) = ap (λ (l : List Doc). docOf s n ∷ l) (map-take s k ns)
 
-pub map-drop : (s : Sheet) (k : ℕ) (ns : List ℕ) → map (docOf s) (drop k ns) ≡ drop k (map (docOf s) ns)
+pub map-drop : (s : Draft) (k : ℕ) (ns : List ℕ) → map (docOf s) (drop k ns) ≡ drop k (map (docOf s) ns)
 map-drop s zero ns = refl
 map-drop s (suc k) [] = refl
 map-drop s (suc k) (n ∷ ns) = map-drop s k ns
 
-module _ {s : Sheet} (c : Clean s) where
+module _ {s : Draft} (c : Clean s) where
   abbrev N : ℕ
   N = s .counts .nodes
 
@@ -72,20 +72,20 @@ module _ {s : Sheet} (c : Clean s) where
 -- ---- in order
 
 -- the shared nodes stand for Nil and the guard
-pub record Stand (s : Sheet) (sh : Shared) : Type 0 where
+pub record Stand (s : Draft) (sh : Shared) : Type 0 where
   pub none : sh .none .0 < s .counts .nodes
   pub guard : sh .guard .0 < s .counts .nodes
   pub none-is : docOf s (sh .none .0) ≡ nil
   pub guard-is : docOf s (sh .guard .0) ≡ guardDoc
 
-pub stand-still : {s : Sheet} {x : Built} {d : Doc} {sh : Shared} → Clean s → Makes s x d → Stand s sh → Stand (x .sheet) sh
+pub stand-still : {s : Draft} {x : Built} {d : Doc} {sh : Shared} → Clean s → Makes s x d → Stand s sh → Stand (x .draft) sh
 stand-still c m h =
     record { none = there m (h .none); guard = there m (h .guard); none-is = still c m _ (h .none) ∙ h .none-is; guard-is = still c m _ (h .guard) ∙ h .guard-is }
 
-pub below-still : {s : Sheet} {x : Built} {d : Doc} → Makes s x d → (ns : List ℕ) → Below (s .counts .nodes) ns → Below (x .sheet .counts .nodes) ns
+pub below-still : {s : Draft} {x : Built} {d : Doc} → Makes s x d → (ns : List ℕ) → Below (s .counts .nodes) ns → Below (x .draft .counts .nodes) ns
 below-still m ns b = below-more ns (more-nodes (m .grown)) b
 
-module _ {s : Sheet} (c : Clean s) (sh : Shared) (h : Stand s sh) where
+module _ {s : Draft} (c : Clean s) (sh : Shared) (h : Stand s sh) where
   pub head-makes : (before : List ℕ) → Below (s .counts .nodes) before → Makes s (head s sh before) (headDoc (map (docOf s) before))
   unfolding head headDoc
   head-makes before b =
@@ -114,14 +114,14 @@ module _ {s : Sheet} (c : Clean s) (sh : Shared) (h : Stand s sh) where
         after second (after third (meaning e (append-makes (third .clean) _ _ (there third (second .present)) (third .present))))
 
 module _ (b : Block) (p : b .amount .0 ≤ 1000) (w : b .way ≤ 1) where
-  wrap-makes : {s : Sheet} → Clean s → (n prefix : ℕ) (q : Bool) → n < s .counts .nodes → prefix < s .counts .nodes → Makes s (wrap s b n prefix q) (wrapDoc (b .amount .0) (b .way) (docOf s n) (docOf s prefix) q)
+  wrap-makes : {s : Draft} → Clean s → (n prefix : ℕ) (q : Bool) → n < s .counts .nodes → prefix < s .counts .nodes → Makes s (wrap s b n prefix q) (wrapDoc (b .amount .0) (b .way) (docOf s n) (docOf s prefix) q)
   unfolding wrap wrapDoc
   wrap-makes {s} c n prefix q l k =
       let first = append-makes c prefix n k l in
       let second = nested-makes (first .clean) b p w _ q (first .present) in
       grouped-makes (after first (meaning (ap (λ (d : Doc). pick q (nestDoc d (b .amount .0) (b .way)) d) (first .unfolds)) second))
 
-  pub wraps-makes : {s : Sheet} → Clean s → (n : ℕ) (ps : List ℕ) (qs : List Bool) → n < s .counts .nodes → Below (s .counts .nodes) ps → Makes s (wraps s b n ps qs) (wrapsDoc (b .amount .0) (b .way) (docOf s n) (map (docOf s) ps) qs)
+  pub wraps-makes : {s : Draft} → Clean s → (n : ℕ) (ps : List ℕ) (qs : List Bool) → n < s .counts .nodes → Below (s .counts .nodes) ps → Makes s (wraps s b n ps qs) (wrapsDoc (b .amount .0) (b .way) (docOf s n) (map (docOf s) ps) qs)
   unfolding wraps wrapsDoc
   wraps-makes c n [] qs l k = older-makes c n l
   wraps-makes c n (x ∷ ps) [] l k = older-makes c n l

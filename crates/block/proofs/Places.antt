@@ -19,7 +19,7 @@ use Rattle.build.specs.declared.Why.{Why}
 use Rattle.build.specs.declared.Why.the-variants.{Nodes}
 use Rattle.build.specs.declared.Made.{Made}
 use Rattle.build.specs.declared.Made.the-variants.{Node, Refused}
-use Rattle.build.specs.Sheet.{Built, counted, over}
+use Rattle.build.specs.Draft.{Built, counted, over}
 use Rattle.build.specs.Outcome.{fits, outcome, added, made}
 use Rattle.build.proofs.Room.{Fits, fits-of, of-fits}
 use Rattle.build.proofs.Stand.{same-words}
@@ -77,11 +77,11 @@ module _ {c : Counts} {table text : List ℕ} (r : Ready c table text) {b : Bloc
   own-adds : Adds (counted c own text) whole
   own-adds = rw own-counted adds
 
-  three : c .nodes + 3 ≤ whole .sheet .counts .nodes
+  three : c .nodes + 3 ≤ whole .draft .counts .nodes
   unfolding counted
   three = layouts-three (counted c table text) b ps ss qs others (start-node r (k .bodied .body)) (start-list r ps (k .before)) (start-list r ss (k .behind))
 
-  quiet : whole .sheet .counts .bytes ≡ c .bytes
+  quiet : whole .draft .counts .bytes ≡ c .bytes
   unfolding counted
   quiet = adds .quiet
 
@@ -89,11 +89,11 @@ module _ {c : Counts} {table text : List ℕ} (r : Ready c table text) {b : Bloc
   Goal m table′ = outcome m table′ text ≡ made c table text true true true (λ s. layouts s b ps ss qs others)
 
   -- no room: refused
-  refused : fits (c .nodes) (whole .sheet .counts .nodes) 1024 (length table / 4) ≡ false → Goal (Refused Nodes) table
+  refused : fits (c .nodes) (whole .draft .counts .nodes) 1024 (length table / 4) ≡ false → Goal (Refused Nodes) table
   refused e = made-short c table text true true (λ s. layouts s b ps ss qs others) (r .nodes) (r .bytes) refl refl quiet e
 
   abbrev W : ℕ
-  W = whole .sheet .counts .nodes
+  W = whole .draft .counts .nodes
 
   -- what the lent table has room for, the table of their own has room for
   lent-fits : fits (c .nodes) W 1024 (length table / 4) ≡ true → Fits (c .nodes) W 1024 (length table / 4)
@@ -114,7 +114,7 @@ module _ {c : Counts} {table text : List ℕ} (r : Ready c table text) {b : Bloc
         rw (ran .short none) (refused (none-lent (fits (c .nodes) W 1024 (length table / 4)) refl (λ l m. true≢false (sym (small l) ∙ none))))
 
     module _ {d : Counts} {n : NodeNo} (x : m ≡ Node d n) where
-      t : At c own text (whole .sheet) d own₁ × (n .0 ≡ whole .node)
+      t : At c own text (whole .draft) d own₁ × (n .0 ≡ whole .node)
       t = at own-ready own-adds ran x
 
       is-whole : d .nodes ≡ W
@@ -142,7 +142,7 @@ module _ {c : Counts} {table text : List ℕ} (r : Ready c table text) {b : Bloc
           let g : c .nodes ≤ W = omega arith in
           let room : Fits (c .nodes) W 1024 (length table / 4) = record { grows = g; limited = λ y. few-whole; inside = λ y. omega arith } in
           let size : length (adds .grown .words) ≡ d .nodes * 4 - c .nodes * 4 = let n = adds .grown .nodes in omega arith in
-          let words = over-copied table own (adds .grown .words) (whole .sheet .table) (c .nodes * 4) (d .nodes * 4 - c .nodes * 4) (adds .grown .table) used-inside size in
+          let words = over-copied table own (adds .grown .words) (whole .draft .table) (c .nodes * 4) (d .nodes * 4 - c .nodes * 4) (adds .grown .table) used-inside size in
           let laid = e ∙ ap (λ (l : List ℕ). put table (c .nodes * 4) (take (d .nodes * 4 - c .nodes * 4) (drop (c .nodes * 4) l))) (t .0 .stands .words) ∙ words in
           let kept = t .0 .stands .bytes in
           (λ i. outcome (Node (t .0 .stands .counts i) (record { 0 = t .1 i })) (laid i) (kept i))

@@ -11,7 +11,7 @@ use Rattle.build.specs.declared.Counts.{Counts}
 use Rattle.build.specs.declared.Why.{Why}
 use Rattle.build.specs.declared.Made.{Made}
 use Rattle.build.specs.declared.Made.the-variants.{Node, Refused}
-use Rattle.build.specs.Sheet.{Sheet, Built, counted}
+use Rattle.build.specs.Draft.{Draft, Built, counted}
 use Rattle.build.specs.Parts.{append}
 use Rattle.build.specs.Outcome.{outcome}
 use Rattle.build.specs.Constructors.{hasAll, appendMade}
@@ -33,7 +33,7 @@ pub rest-all : {A : Type 0} (xs : List A) (k : ℕ) → take (length xs - k) (dr
 rest-all xs k = take-all (length xs - k) (drop k xs) (rw (length-drop k xs) (omega arith))
 
 module _ {c : Counts} {table text : List ℕ} (r : Ready c table text) {b : Block} {sh : Shared} {ps ss : List ℕ} (k : Hand c b sh ps ss) (qs : List Bool) (split : ℕ) where
-  abbrev s₀ : Sheet
+  abbrev s₀ : Draft
   s₀ = counted c table text
 
   abbrev before : List ℕ
@@ -43,13 +43,13 @@ module _ {c : Counts} {table text : List ℕ} (r : Ready c table text) {b : Bloc
   front = head s₀ sh before
 
   abbrev middle : Built
-  middle = core (front .sheet) b sh (bare (front .sheet) before) (drop split ss)
+  middle = core (front .draft) b sh (bare (front .draft) before) (drop split ss)
 
   abbrev wrapped : Built
-  wrapped = wraps (middle .sheet) b (middle .node) (drop split ps) (drop split qs)
+  wrapped = wraps (middle .draft) b (middle .node) (drop split ps) (drop split qs)
 
   abbrev back : Built
-  back = tail (wrapped .sheet) sh (wrapped .node) (take split ss)
+  back = tail (wrapped .draft) sh (wrapped .node) (take split ss)
 
   abbrev whole : Built
   whole = alternative s₀ b sh ps ss qs split
@@ -60,16 +60,16 @@ module _ {c : Counts} {table text : List ℕ} (r : Ready c table text) {b : Bloc
   d₁ : Adds s₀ front
   d₁ = front-adds b sh ps ss qs s₀ split on
 
-  d₂ : Adds (front .sheet) middle
+  d₂ : Adds (front .draft) middle
   d₂ = middle-adds b sh ps ss qs s₀ split on
 
-  d₃ : Adds (middle .sheet) wrapped
+  d₃ : Adds (middle .draft) wrapped
   d₃ = wrapped-adds b sh ps ss qs s₀ split on
 
-  d₄ : Adds (wrapped .sheet) back
+  d₄ : Adds (wrapped .draft) back
   d₄ = back-adds b sh ps ss qs s₀ split on
 
-  d₅ : Adds (back .sheet) whole
+  d₅ : Adds (back .draft) whole
   d₅ = join-adds b sh ps ss qs s₀ split on
 
   e₂ : Adds s₀ middle
@@ -86,7 +86,7 @@ module _ {c : Counts} {table text : List ℕ} (r : Ready c table text) {b : Bloc
     split-stop₁ x = stop r d₁ ran₁ x (adds-then d₂ (adds-then d₃ (adds-then d₄ d₅)))
 
     module _ {c₁ : Counts} {n₁ : NodeNo} (x₁ : m₁ ≡ Node c₁ n₁) where
-      t₁ : At c table text (front .sheet) c₁ table₁ × (n₁ .0 ≡ front .node)
+      t₁ : At c table text (front .draft) c₁ table₁ × (n₁ .0 ≡ front .node)
       t₁ = at r d₁ ran₁ x₁
 
       pub split-asks₂ : Ready c₁ table₁ text × Bodied c₁ b × Shares c₁ sh × (hasAll c₁ (drop split ss) ≡ true)
@@ -100,7 +100,7 @@ module _ {c : Counts} {table text : List ℕ} (r : Ready c table text) {b : Bloc
         split-stop₂ x = stop r e₂ so₂ x (adds-then d₃ (adds-then d₄ d₅))
 
         module _ {c₂ : Counts} {n₂ : NodeNo} (x₂ : m₂ ≡ Node c₂ n₂) where
-          t₂ : At c table text (middle .sheet) c₂ table₂ × (n₂ .0 ≡ middle .node)
+          t₂ : At c table text (middle .draft) c₂ table₂ × (n₂ .0 ≡ middle .node)
           t₂ = at r e₂ so₂ x₂
 
           pub split-asks₃ : length qs ≡ length ps → Ready c₂ table₂ text × Bodied c₂ b × (n₂ .0 < c₂ .nodes) × (hasAll c₂ (drop split ps) ≡ true) × (length (drop split qs) ≡ length (drop split ps))
@@ -120,7 +120,7 @@ module _ {c : Counts} {table text : List ℕ} (r : Ready c table text) {b : Bloc
             split-stop₃ x = stop r e₃ so₃ x (adds-then d₄ d₅)
 
             module _ {c₃ : Counts} {n₃ : NodeNo} (x₃ : m₃ ≡ Node c₃ n₃) where
-              t₃ : At c table text (wrapped .sheet) c₃ table₃ × (n₃ .0 ≡ wrapped .node)
+              t₃ : At c table text (wrapped .draft) c₃ table₃ × (n₃ .0 ≡ wrapped .node)
               t₃ = at r e₃ so₃ x₃
 
               pub split-asks₄ : Ready c₃ table₃ text × Shares c₃ sh × (n₃ .0 < c₃ .nodes) × (hasAll c₃ (take split ss) ≡ true)

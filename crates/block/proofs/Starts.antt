@@ -13,7 +13,7 @@ use Rattle.build.specs.declared.Counts.{Counts}
 use Rattle.build.specs.declared.Why.{Why}
 use Rattle.build.specs.declared.Made.{Made}
 use Rattle.build.specs.declared.Made.the-variants.{Node, Refused}
-use Rattle.build.specs.Sheet.{Sheet, Built, counted}
+use Rattle.build.specs.Draft.{Draft, Built, counted}
 use Rattle.build.specs.Parts.{nil, fail, flatAlt}
 use Rattle.build.specs.Outcome.{outcome}
 use Rattle.build.specs.Constructors.{nilMade, failMade, flatAltMade}
@@ -34,15 +34,15 @@ abbrev sharedOf : ℕ → ℕ → Shared
 sharedOf none guard = record { none = record { 0 = none }; guard = record { 0 = guard } }
 
 -- the guard nodes of a sheet
-module _ (s : Sheet) where
+module _ (s : Draft) where
   abbrev b₁ : Built
   b₁ = nil s
 
   abbrev b₂ : Built
-  b₂ = fail (b₁ .sheet)
+  b₂ = fail (b₁ .draft)
 
   abbrev b₃ : Built
-  b₃ = flatAlt (b₂ .sheet) (b₂ .node) (b₁ .node)
+  b₃ = flatAlt (b₂ .draft) (b₂ .node) (b₁ .node)
 
   abbrev sh : Shared
   sh = sharedOf (b₁ .node) (b₃ .node)
@@ -50,42 +50,42 @@ module _ (s : Sheet) where
   d₁ : Adds s b₁
   d₁ = nil-adds s
 
-  d₂ : Adds (b₁ .sheet) b₂
-  d₂ = fail-adds (b₁ .sheet)
+  d₂ : Adds (b₁ .draft) b₂
+  d₂ = fail-adds (b₁ .draft)
 
-  d₃ : Adds (b₂ .sheet) b₃
-  d₃ = flatAlt-adds (b₂ .sheet) (b₂ .node) (b₁ .node)
+  d₃ : Adds (b₂ .draft) b₃
+  d₃ = flatAlt-adds (b₂ .draft) (b₂ .node) (b₁ .node)
 
   d₁₂₃ : Adds s b₃
   d₁₂₃ = adds-then d₁ (adds-then d₂ d₃)
 
-  none-there : b₁ .node < b₃ .sheet .counts .nodes
+  none-there : b₁ .node < b₃ .draft .counts .nodes
   none-there = stays-there d₃ (stays-there d₂ (d₁ .present))
 
   module _ (b : Block) (ps ss : List ℕ) (qs : List Bool) (others : ℕ) (body : b .body .0 < s .counts .nodes) (before : Below (s .counts .nodes) ps) (behind : Below (s .counts .nodes) ss) where
     abbrev b₄ : Built
-    b₄ = alternative (b₃ .sheet) b sh ps ss qs (suc others)
+    b₄ = alternative (b₃ .draft) b sh ps ss qs (suc others)
 
-    on : On (b₃ .sheet .counts .nodes) b sh ps ss
+    on : On (b₃ .draft .counts .nodes) b sh ps ss
     on = record { body = stays-there d₁₂₃ body; none = none-there; guard = d₃ .present; before = stay-below d₁₂₃ ps before; behind = stay-below d₁₂₃ ss behind }
 
-    d₄ : Adds (b₃ .sheet) b₄
-    d₄ = alternative-adds b sh ps ss qs (b₃ .sheet) (suc others) on
+    d₄ : Adds (b₃ .draft) b₄
+    d₄ = alternative-adds b sh ps ss qs (b₃ .draft) (suc others) on
 
-    d₅ : Adds (b₄ .sheet) (layouts s b ps ss qs others)
+    d₅ : Adds (b₄ .draft) (layouts s b ps ss qs others)
     unfolding layouts
-    d₅ = unions-adds b sh ps ss qs (b₄ .sheet) (b₄ .node) others (d₄ .present) (on-still d₄ on)
+    d₅ = unions-adds b sh ps ss qs (b₄ .draft) (b₄ .node) others (d₄ .present) (on-still d₄ on)
 
     pub layouts-adds : Adds s (layouts s b ps ss qs others)
     layouts-adds = adds-then d₁₂₃ (adds-then d₄ d₅)
 
-    pub layouts-three : s .counts .nodes + 3 ≤ layouts s b ps ss qs others .sheet .counts .nodes
+    pub layouts-three : s .counts .nodes + 3 ≤ layouts s b ps ss qs others .draft .counts .nodes
     layouts-three = let g = more-nodes (adds-then d₄ d₅ .grown) in omega arith
 
 -- ---- part by part
 
 module _ {c : Counts} {table text : List ℕ} (r : Ready c table text) {b : Block} {ps ss : List ℕ} {qs : List Bool} (k : Askable c b ps ss qs) where
-  abbrev s₀ : Sheet
+  abbrev s₀ : Draft
   s₀ = counted c table text
 
   abbrev others : ℕ
@@ -103,10 +103,10 @@ module _ {c : Counts} {table text : List ℕ} (r : Ready c table text) {b : Bloc
   the-behind : Below (s₀ .counts .nodes) ss
   the-behind = start-list r ss (k .behind)
 
-  a₄ : Adds (b₃ s₀ .sheet) (b₄ s₀ b ps ss qs others the-body the-before the-behind)
+  a₄ : Adds (b₃ s₀ .draft) (b₄ s₀ b ps ss qs others the-body the-before the-behind)
   a₄ = d₄ s₀ b ps ss qs others the-body the-before the-behind
 
-  a₅ : Adds (b₄ s₀ b ps ss qs others the-body the-before the-behind .sheet) whole
+  a₅ : Adds (b₄ s₀ b ps ss qs others the-body the-before the-behind .draft) whole
   a₅ = d₅ s₀ b ps ss qs others the-body the-before the-behind
 
   a₁₂ : Adds s₀ (b₂ s₀)
@@ -137,7 +137,7 @@ module _ {c : Counts} {table text : List ℕ} (r : Ready c table text) {b : Bloc
         start-stop₃ x = stop r (d₁₂₃ s₀) so₃ x (adds-then a₄ a₅)
 
         module _ {c₃ : Counts} {n₃ : NodeNo} (x₃ : m₃ ≡ Node c₃ n₃) where
-          t₃ : At c table text (b₃ s₀ .sheet) c₃ table₃ × (n₃ .0 ≡ b₃ s₀ .node)
+          t₃ : At c table text (b₃ s₀ .draft) c₃ table₃ × (n₃ .0 ≡ b₃ s₀ .node)
           t₃ = at r (d₁₂₃ s₀) so₃ x₃
 
           -- the shared nodes as the code holds them
@@ -168,7 +168,7 @@ module _ {c : Counts} {table text : List ℕ} (r : Ready c table text) {b : Bloc
             start-stop₄ x = stop r (adds-then (d₁₂₃ s₀) a₄) so₄ x a₅
 
             module _ {c₄ : Counts} {n₄ : NodeNo} (x₄ : m₄ ≡ Node c₄ n₄) where
-              t₄ : At c table text (b₄ s₀ b ps ss qs others the-body the-before the-behind .sheet) c₄ table₄ × (n₄ .0 ≡ b₄ s₀ b ps ss qs others the-body the-before the-behind .node)
+              t₄ : At c table text (b₄ s₀ b ps ss qs others the-body the-before the-behind .draft) c₄ table₄ × (n₄ .0 ≡ b₄ s₀ b ps ss qs others the-body the-before the-behind .node)
               t₄ = at r (adds-then (d₁₂₃ s₀) a₄) so₄ x₄
 
               pub start-asks₅ : Ready c₄ table₄ text × Hand c₄ b (record { none = n₁; guard = n₃ }) ps ss × Even (length ps - 1) ps ss qs × (n₄ .0 < c₄ .nodes)

@@ -12,7 +12,7 @@ use Rattle.build.specs.declared.Counts.{Counts}
 use Rattle.build.specs.declared.Why.{Why}
 use Rattle.build.specs.declared.Made.{Made}
 use Rattle.build.specs.declared.Made.the-variants.{Node, Refused}
-use Rattle.build.specs.Sheet.{Sheet, Built, counted}
+use Rattle.build.specs.Draft.{Draft, Built, counted}
 use Rattle.build.specs.Parts.{append}
 use Rattle.build.specs.Outcome.{outcome}
 use Rattle.build.specs.Constructors.{hasAll, appendMade}
@@ -27,40 +27,40 @@ use Rattle.affixes.proofs.Layers.{stays-there, stay-below, list-adds, guarded-a
 use Rattle.block.proofs.Layers.{nested-adds}
 use Rattle.affixes.proofs.Chain.{At, ready, later, start-node, start-list, go, go-made, at, stop, counted-node, counted-list, shares-later, two}
 
-module _ {c : Counts} {table text : List ℕ} {s : Sheet} {c₁ : Counts} {table₁ : List ℕ} (a : At c table text s c₁ table₁) where
+module _ {c : Counts} {table text : List ℕ} {s : Draft} {c₁ : Counts} {table₁ : List ℕ} (a : At c table text s c₁ table₁) where
   pub bodied-later : {b : Block} → Bodied c b → Bodied c₁ b
   bodied-later k = let l = later a in record { body = omega (arith, k .body); amount = k .amount }
 
 -- ---- Core
 
 module _ {c : Counts} {table text : List ℕ} (r : Ready c table text) {b : Block} (k : Bodied c b) {sh : Shared} (j : Shares c sh) (q : Bool) (after : List ℕ) (h : hasAll c after ≡ true) where
-  abbrev s₀ : Sheet
+  abbrev s₀ : Draft
   s₀ = counted c table text
 
   abbrev b₁ : Built
   b₁ = guarded s₀ sh (b .body .0) q
 
   abbrev b₂ : Built
-  b₂ = nested (b₁ .sheet) b (b₁ .node) true
+  b₂ = nested (b₁ .draft) b (b₁ .node) true
 
   abbrev b₃ : Built
-  b₃ = list (b₂ .sheet) (sh .none .0) after
+  b₃ = list (b₂ .draft) (sh .none .0) after
 
   d₁ : Adds s₀ b₁
   d₁ = guarded-adds s₀ sh (b .body .0) q (start-node r (j .guard)) (start-node r (k .body))
 
-  d₂ : Adds (b₁ .sheet) b₂
-  d₂ = nested-adds (b₁ .sheet) b (b₁ .node) true (d₁ .present)
+  d₂ : Adds (b₁ .draft) b₂
+  d₂ = nested-adds (b₁ .draft) b (b₁ .node) true (d₁ .present)
 
   d₁₂ : Adds s₀ b₂
   d₁₂ = adds-then d₁ d₂
 
-  d₃ : Adds (b₂ .sheet) b₃
-  d₃ = list-adds (b₂ .sheet) (sh .none .0) after (stays-there d₁₂ (start-node r (j .none))) (stay-below d₁₂ after (start-list r after h))
+  d₃ : Adds (b₂ .draft) b₃
+  d₃ = list-adds (b₂ .draft) (sh .none .0) after (stays-there d₁₂ (start-node r (j .none))) (stay-below d₁₂ after (start-list r after h))
 
-  d₄ : Adds (b₃ .sheet) (core s₀ b sh q after)
+  d₄ : Adds (b₃ .draft) (core s₀ b sh q after)
   unfolding core
-  d₄ = append-adds (b₃ .sheet) (b₂ .node) (b₃ .node) (stays-there d₃ (d₂ .present)) (d₃ .present)
+  d₄ = append-adds (b₃ .draft) (b₂ .node) (b₃ .node) (stays-there d₃ (d₂ .present)) (d₃ .present)
 
   module _ {m₁ : Made} {table₁ : List ℕ} (ran₁ : Ran c table text b₁ m₁ table₁) where
     pub core-stop₁ : {why : Why} → m₁ ≡ Refused why → Ran c table text (core s₀ b sh q after) m₁ table₁

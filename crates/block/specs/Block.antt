@@ -8,7 +8,7 @@ use Rattle.choice.specs.Pick.{pick}
 use Rattle.build.specs.declared.Counts.{Counts}
 use Rattle.build.specs.declared.Why.the-variants.{Sizes}
 use Rattle.build.specs.declared.Made.the-variants.{Refused}
-use Rattle.build.specs.Sheet.{Sheet, Built, older}
+use Rattle.build.specs.Draft.{Draft, Built, older}
 use Rattle.build.specs.Parts.{nil, append, group, flatAlt, nest, union, fail}
 use Rattle.build.specs.Outcome.{Outcome, outcome, made}
 use Rattle.build.specs.Constructors.{has, hasAll, nestRight}
@@ -17,62 +17,62 @@ use Rattle.affixes.specs.Affixes.{list, bare, guarded, head, tail}
 use Rattle.block.specs.declared.Block.{Block}
 
 -- a node, nested by the amount if flagged
-unfoldable pub nested : Sheet → Block → ℕ → Bool → Built
+unfoldable pub nested : Draft → Block → ℕ → Bool → Built
 nested s b n flag = pick flag (nest s n (b .amount .0) (b .way)) (older s n)
 
 -- body, joined to the guard if asked, nested by the amount, then after's suffixes
-unfoldable pub core : Sheet → Block → Shared → Bool → List ℕ → Built
+unfoldable pub core : Draft → Block → Shared → Bool → List ℕ → Built
 core s b sh asked after =
     let joined = guarded s sh (b .body .0) asked in
-    let inner = nested (joined .sheet) b (joined .node) true in
-    let suffixes = list (inner .sheet) (sh .none .0) after in
-    append (suffixes .sheet) (inner .node) (suffixes .node)
+    let inner = nested (joined .draft) b (joined .node) true in
+    let suffixes = list (inner .draft) (sh .none .0) after in
+    append (suffixes .draft) (inner .node) (suffixes .node)
 
 -- a prefix joined before what stands, nested if flagged, grouped
-unfoldable pub wrap : Sheet → Block → ℕ → ℕ → Bool → Built
+unfoldable pub wrap : Draft → Block → ℕ → ℕ → Bool → Built
 wrap s b n prefix flag =
     let joined = append s prefix n in
-    let inner = nested (joined .sheet) b (joined .node) flag in
-    group (inner .sheet) (inner .node)
+    let inner = nested (joined .draft) b (joined .node) flag in
+    group (inner .draft) (inner .node)
 
 -- from the last of after to the first
-unfoldable pub wraps : Sheet → Block → ℕ → List ℕ → List Bool → Built
+unfoldable pub wraps : Draft → Block → ℕ → List ℕ → List Bool → Built
 wraps s b n [] flags = older s n
 wraps s b n (p ∷ ps) [] = older s n
 wraps s b n (p ∷ ps) (q ∷ qs) =
     let inner = wraps s b n ps qs in
-    wrap (inner .sheet) b (inner .node) p q
+    wrap (inner .draft) b (inner .node) p q
 
 -- Head joined to Tail, where "before" is the first so many affixes
-unfoldable pub alternative : Sheet → Block → Shared → List ℕ → List ℕ → List Bool → ℕ → Built
+unfoldable pub alternative : Draft → Block → Shared → List ℕ → List ℕ → List Bool → ℕ → Built
 alternative s b sh prefixes suffixes nests split =
     let before = take split prefixes in
     let front = head s sh before in
-    let middle = core (front .sheet) b sh (bare (front .sheet) before) (drop split suffixes) in
-    let wrapped = wraps (middle .sheet) b (middle .node) (drop split prefixes) (drop split nests) in
-    let back = tail (wrapped .sheet) sh (wrapped .node) (take split suffixes) in
-    append (back .sheet) (front .node) (back .node)
+    let middle = core (front .draft) b sh (bare (front .draft) before) (drop split suffixes) in
+    let wrapped = wraps (middle .draft) b (middle .node) (drop split prefixes) (drop split nests) in
+    let back = tail (wrapped .draft) sh (wrapped .node) (take split suffixes) in
+    append (back .draft) (front .node) (back .node)
 
 -- the alternatives from so many affixes before down to 1, each in a union with what stands
-unfoldable pub unions : Sheet → Block → Shared → List ℕ → List ℕ → List Bool → ℕ → ℕ → Built
+unfoldable pub unions : Draft → Block → Shared → List ℕ → List ℕ → List Bool → ℕ → ℕ → Built
 unions s b sh prefixes suffixes nests n zero = older s n
 unions s b sh prefixes suffixes nests n (suc split) =
     let other = alternative s b sh prefixes suffixes nests (suc split) in
-    let both = union (other .sheet) n (other .node) in
-    unions (both .sheet) b sh prefixes suffixes nests (both .node) split
+    let both = union (other .draft) n (other .node) in
+    unions (both .draft) b sh prefixes suffixes nests (both .node) split
 
 -- one Nil, one Fail and the guard first; then all affixes before, and down to one
-unfoldable pub layouts : Sheet → Block → List ℕ → List ℕ → List Bool → ℕ → Built
+unfoldable pub layouts : Draft → Block → List ℕ → List ℕ → List Bool → ℕ → Built
 layouts s b prefixes suffixes nests others =
     let none = nil s in
-    let failing = fail (none .sheet) in
-    let guard = flatAlt (failing .sheet) (failing .node) (none .node) in
+    let failing = fail (none .draft) in
+    let guard = flatAlt (failing .draft) (failing .node) (none .node) in
     let sh : Shared = record { none = record { 0 = none .node }; guard = record { 0 = guard .node } } in
-    let first = alternative (guard .sheet) b sh prefixes suffixes nests (suc others) in
-    unions (first .sheet) b sh prefixes suffixes nests (first .node) others
+    let first = alternative (guard .draft) b sh prefixes suffixes nests (suc others) in
+    unions (first .draft) b sh prefixes suffixes nests (first .node) others
 
 -- none gives the body and builds nothing
-unfoldable pub blockOf : Sheet → Block → List ℕ → List ℕ → List Bool → Built
+unfoldable pub blockOf : Draft → Block → List ℕ → List ℕ → List Bool → Built
 blockOf s b [] suffixes nests = older s (b .body .0)
 blockOf s b (p ∷ ps) suffixes nests = layouts s b (p ∷ ps) suffixes nests (length ps)
 

@@ -6,7 +6,7 @@ ghost use mathlib.Core.Bool.{true};
 ghost use Prim.Native.Nat.{_+_, _-_, _<_, _≤_};
 ghost use lib.ListN.{length, take, drop};
 ghost use Rattle.buffer.specs.Run.{put};
-ghost use Rattle.build.specs.Sheet.{counted};
+ghost use Rattle.build.specs.Draft.{counted};
 ghost use Rattle.build.specs.Outcome.{outcome, made};
 ghost use Rattle.build.specs.Constructors.{nestRight};
 ghost use Rattle.affixes.specs.Run.{Ready, Ran};

@@ -3,7 +3,7 @@ ghost use mathlib.Core.Path.{_≡_};
 ghost use mathlib.Core.Bool.{true};
 ghost use Prim.Native.Nat.{_<_};
 ghost use lib.ListN.{length};
-ghost use Rattle.build.specs.Sheet.{counted};
+ghost use Rattle.build.specs.Draft.{counted};
 ghost use Rattle.build.specs.Constructors.{hasAll};
 ghost use Rattle.affixes.specs.Run.{Ready, Shares, Ran};
 ghost use Rattle.block.specs.Block.{nested, core, wrap, wraps, alternative};

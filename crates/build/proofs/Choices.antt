@@ -5,10 +5,10 @@ use mathlib.Core.Bool.{_||_, true, false}
 use mathlib.Core.List.{List}
 use lib.ListN.{length}
 use lib.Dec.{eqb}
-use Rattle.build.specs.Sheet.{Sheet, older, add, write}
+use Rattle.build.specs.Draft.{Draft, older, add, write}
 use Rattle.build.specs.Parts.{isNil, stays, nil, append, group, nest, text}
 
-module _ (s : Sheet) (a b : ℕ) where
+module _ (s : Draft) (a b : ℕ) where
   pub append-left : isNil s a ≡ true → append s a b ≡ older s b
   unfolding append
   append-left e = rw e refl
@@ -21,7 +21,7 @@ module _ (s : Sheet) (a b : ℕ) where
   unfolding append
   append-both e f = rw (e, f) refl
 
-module _ (s : Sheet) (n : ℕ) where
+module _ (s : Draft) (n : ℕ) where
   pub group-stays : stays s n ≡ true → group s n ≡ older s n
   unfolding group
   group-stays e = rw e refl
@@ -39,7 +39,7 @@ module _ (s : Sheet) (n : ℕ) where
     unfolding nest
     nest-wraps e = rw e refl
 
-module _ (s : Sheet) (bytes : List ℕ) (columns : ℕ) where
+module _ (s : Draft) (bytes : List ℕ) (columns : ℕ) where
   pub text-none : eqb (length bytes) 0 ≡ true → text s bytes columns ≡ nil s
   unfolding text
   text-none e = rw e refl

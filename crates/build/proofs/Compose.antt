@@ -16,7 +16,7 @@ use Rattle.table.specs.Kinds.{kinds, kindAt}
 use Rattle.buffer.specs.Utf8.{ascii}
 use Rattle.table.specs.Fault.{columnsRight, faultOf}
 use Rattle.table.specs.Document.{Doc, doc, nil, append, group, flatAlt, hardline, text, align}
-use Rattle.build.specs.Sheet.{Sheet, Built, add, write}
+use Rattle.build.specs.Draft.{Draft, Built, add, write}
 use Rattle.build.specs.Parts as parts
 use Rattle.build.specs.Documents.{appendDoc, groupDoc, textDoc, spaceDoc, lineDoc, line₀Doc, softlineDoc, softline₀Doc, hangDoc, indentDoc, encloseDoc, joinedDoc, concatDoc, separatedDoc, intersperseDoc}
 use Rattle.build.proofs.Grow.{same, then, whole-grown, more-nodes, add-grown, write-grown}
@@ -26,14 +26,14 @@ use Rattle.build.proofs.Separated.{below-separated}
 use Rattle.build.proofs.Indents.{blanks-right}
 use Rattle.build.proofs.Means.{Makes, there, still, after, meaning, nil-makes, hardline-makes, flatAlt-makes, align-makes, group-makes, nest-makes, append-makes}
 
-module _ {s : Sheet} (c : Clean s) where
+module _ {s : Draft} (c : Clean s) where
   abbrev N : ℕ
   N = s .counts .nodes
 
   -- ---- Text
 
   module _ (bytes : List ℕ) (columns : ℕ) (right : columnsRight bytes columns ≡ true) where
-    abbrev longer : Sheet
+    abbrev longer : Draft
     longer = write s bytes
 
     clean-longer : Clean longer
@@ -69,10 +69,10 @@ module _ {s : Sheet} (c : Clean s) where
   -- ---- lines
 
   -- a Hardline, one node more, and FlatAlt of the two
-  either-makes : (flat : Sheet → Built) (d : Doc) → ((t : Sheet) → Clean t → Makes t (flat t) d) → Makes s (let b = parts.hardline s in let f = flat (b .sheet) in parts.flatAlt (f .sheet) (b .node) (f .node)) (flatAlt hardline d)
+  either-makes : (flat : Draft → Built) (d : Doc) → ((t : Draft) → Clean t → Makes t (flat t) d) → Makes s (let b = parts.hardline s in let f = flat (b .draft) in parts.flatAlt (f .draft) (b .node) (f .node)) (flatAlt hardline d)
   either-makes flat d makes =
       let first = hardline-makes c in
-      let second = makes (parts.hardline s .sheet) (first .clean) in
+      let second = makes (parts.hardline s .draft) (first .clean) in
       let e = still (first .clean) second _ (first .present) ∙ first .unfolds in
       after first (after second (meaning (ap₂ flatAlt e (second .unfolds)) (flatAlt-makes (second .clean) _ _ (there second (first .present)) (second .present))))
 
@@ -81,10 +81,10 @@ module _ {s : Sheet} (c : Clean s) where
   line₀-makes = either-makes parts.nil nil (λ t k. nil-makes k)
 
 -- a group around what was made
-pub grouped-makes : {s : Sheet} {b : Built} {d : Doc} → Makes s b d → Makes s (parts.group (b .sheet) (b .node)) (groupDoc d)
+pub grouped-makes : {s : Draft} {b : Built} {d : Doc} → Makes s b d → Makes s (parts.group (b .draft) (b .node)) (groupDoc d)
 grouped-makes m = after m (meaning (ap groupDoc (m .unfolds)) (group-makes (m .clean) _ (m .present)))
 
-module _ {s : Sheet} (c : Clean s) where
+module _ {s : Draft} (c : Clean s) where
   pub line-makes : Makes s (parts.line s) lineDoc
   unfolding parts.line
   line-makes = either-makes c parts.space spaceDoc (λ t k. space-makes k)
@@ -105,7 +105,7 @@ module _ {s : Sheet} (c : Clean s) where
       let m = nest-makes c n h amount way p q in
       after m (meaning (ap align (m .unfolds)) (align-makes (m .clean) _ (m .present)))
 
-pub indent-makes : {s : Sheet} → Clean s → (n by : ℕ) → n < s .counts .nodes → by ≤ 1000 → Makes s (parts.indent s n by) (indentDoc (docOf s n) by)
+pub indent-makes : {s : Draft} → Clean s → (n by : ℕ) → n < s .counts .nodes → by ≤ 1000 → Makes s (parts.indent s n by) (indentDoc (docOf s n) by)
 unfolding parts.indent
 indent-makes c n by h p =
     let first = text-makes c (replicate by 32) by (blanks-right by) in
@@ -118,11 +118,11 @@ indent-makes c n by h p =
 -- ---- lists
 
 -- documents of older nodes
-pub docs-still : {s : Sheet} {b : Built} {d : Doc} → Clean s → Makes s b d → (ns : List ℕ) → Below (s .counts .nodes) ns → map (docOf (b .sheet)) ns ≡ map (docOf s) ns
+pub docs-still : {s : Draft} {b : Built} {d : Doc} → Clean s → Makes s b d → (ns : List ℕ) → Below (s .counts .nodes) ns → map (docOf (b .draft)) ns ≡ map (docOf s) ns
 docs-still c m [] b = refl
 docs-still c m (n ∷ ns) b = ap₂ (λ (x : Doc) (xs : List Doc). x ∷ xs) (still c m n (b .0)) (docs-still c m ns (b .1))
 
-pub joined-makes : {s : Sheet} → Clean s → (n : ℕ) (ns : List ℕ) → n < s .counts .nodes → Below (s .counts .nodes) ns → Makes s (parts.joined s n ns) (joinedDoc (docOf s n) (map (docOf s) ns))
+pub joined-makes : {s : Draft} → Clean s → (n : ℕ) (ns : List ℕ) → n < s .counts .nodes → Below (s .counts .nodes) ns → Makes s (parts.joined s n ns) (joinedDoc (docOf s n) (map (docOf s) ns))
 unfolding parts.joined joinedDoc
 joined-makes {s} c n [] h b = record { grown = same s; clean = c; present = h; unfolds = refl }
 joined-makes {s} c n (m ∷ ns) h b =
@@ -130,7 +130,7 @@ joined-makes {s} c n (m ∷ ns) h b =
     let rest = joined-makes (first .clean) (parts.append s n m .node) ns (first .present) (below-more ns (more-nodes (first .grown)) (b .1)) in
     after first (meaning (ap₂ joinedDoc (first .unfolds) (docs-still c first ns (b .1))) rest)
 
-module _ {s : Sheet} (c : Clean s) where
+module _ {s : Draft} (c : Clean s) where
   pub concat-makes : (ns : List ℕ) → Below (s .counts .nodes) ns → Makes s (parts.concat s ns) (concatDoc (map (docOf s) ns))
   unfolding parts.concat concatDoc
   concat-makes [] b = nil-makes c

@@ -17,7 +17,7 @@ use Rattle.build.specs.declared.Made.{Made}
 use Rattle.build.specs.declared.Made.the-variants.{Node, Refused}
 use Rattle.build.specs.declared.Asked.{Asked}
 use Rattle.build.specs.declared.Asked.the-variants.{Granted, Denied}
-use Rattle.build.specs.Sheet.{Sheet, Built, counted}
+use Rattle.build.specs.Draft.{Draft, Built, counted}
 use Rattle.build.specs.Parts.{joined, concat}
 use Rattle.build.specs.Solid.{solid}
 use Rattle.build.specs.Outcome.{asked, answered, outcome, onward, made}
@@ -28,14 +28,14 @@ use Rattle.build.proofs.Stand.{start, refuse, Begun, begin}
 
 -- ---- the whole, whatever list it joins
 
-module _ (c : Counts) (table text : List ℕ) (present : Bool) (whole : Sheet → Built) (first : ℕ) (rest : List ℕ) (is : joined (counted c table text) first rest ≡ whole (counted c table text)) (operands : present ≡ true → Below (c .nodes) (first ∷ rest)) where
-  abbrev s₀ : Sheet
+module _ (c : Counts) (table text : List ℕ) (present : Bool) (whole : Draft → Built) (first : ℕ) (rest : List ℕ) (is : joined (counted c table text) first rest ≡ whole (counted c table text)) (operands : present ≡ true → Below (c .nodes) (first ∷ rest)) where
+  abbrev s₀ : Draft
   s₀ = counted c table text
 
   abbrev joins : ℕ
   joins = solid (s₀ .table) (first ∷ rest) - 1
 
-  right-counts : c .nodes ≤ length table / 4 → c .bytes ≤ length text → present ≡ true → (whole s₀ .sheet .counts .nodes ≡ c .nodes + joins) × (whole s₀ .sheet .counts .bytes ≡ c .bytes + 0)
+  right-counts : c .nodes ≤ length table / 4 → c .bytes ≤ length text → present ≡ true → (whole s₀ .draft .counts .nodes ≡ c .nodes + joins) × (whole s₀ .draft .counts .bytes ≡ c .bytes + 0)
   unfolding counted
   right-counts n b p =
       let e = joined-counts s₀ first rest (start c table text n b .whole) (operands p .0) (operands p .1) in
@@ -61,7 +61,7 @@ module _ (ns : List ℕ) where
   pub head-is : 0 < length ns → ns ≡ getD ns 0 0 ∷ drop 1 ns
   head-is h = drop-cons ns 0 0 h
 
-  pub concat-is : (s : Sheet) → 0 < length ns → joined s (getD ns 0 0) (drop 1 ns) ≡ concat s ns
+  pub concat-is : (s : Draft) → 0 < length ns → joined s (getD ns 0 0) (drop 1 ns) ≡ concat s ns
   unfolding concat
   concat-is s h = by ns h
     where

@@ -15,7 +15,7 @@ use Rattle.build.specs.declared.Why.{Why}
 use Rattle.build.specs.declared.Made.{Made}
 use Rattle.build.specs.declared.Made.the-variants.{Node, Refused}
 use Rattle.build.specs.declared.Asked.{Asked}
-use Rattle.build.specs.Sheet.{Sheet, countsOf, counted, older, add}
+use Rattle.build.specs.Draft.{Draft, countsOf, counted, older, add}
 use Rattle.build.specs.Parts.{isNil, nest, align, hang}
 use Rattle.build.specs.Solid.{nestAdds}
 use Rattle.build.specs.Outcome.{Outcome, asked, outcome, settled}
@@ -24,31 +24,31 @@ use Rattle.build.proofs.Grow.{Grown, same, add-grown, nest-grown, hang-
 use Rattle.build.proofs.Choices.{nest-stays, nest-wraps}
 use Rattle.build.proofs.Stand.{taken, refuse, settle, Begun, begin, step, first-went, finish, first-denied, first-granted}
 
-pub nest-counts : (s : Sheet) (n amount way : ℕ) → nest s n amount way .sheet .counts ≡ countsOf (s .counts .nodes + nestAdds (s .table) n amount) (s .counts .bytes)
+pub nest-counts : (s : Draft) (n amount way : ℕ) → nest s n amount way .draft .counts ≡ countsOf (s .counts .nodes + nestAdds (s .table) n amount) (s .counts .bytes)
 unfolding nest nestAdds
 nest-counts s n amount way = go (isNil s n || eqb amount 0)
   where
-    go : (q : Bool) → pick q (older s n) (add s 4 n amount way) .sheet .counts ≡ countsOf (s .counts .nodes + pick q 0 1) (s .counts .bytes)
+    go : (q : Bool) → pick q (older s n) (add s 4 n amount way) .draft .counts ≡ countsOf (s .counts .nodes + pick q 0 1) (s .counts .bytes)
     go true = ap (λ (x : ℕ). countsOf x (s .counts .bytes)) (sym (add-zero (s .counts .nodes)))
     go false = refl
 
-pub hang-counts : (s : Sheet) (n amount way : ℕ) → hang s n amount way .sheet .counts ≡ countsOf (s .counts .nodes + (nestAdds (s .table) n amount + 1)) (s .counts .bytes)
+pub hang-counts : (s : Draft) (n amount way : ℕ) → hang s n amount way .draft .counts ≡ countsOf (s .counts .nodes + (nestAdds (s .table) n amount + 1)) (s .counts .bytes)
 unfolding hang
 hang-counts s n amount way =
     let e = nest-counts s n amount way in
-    let h : nest s n amount way .sheet .counts .nodes + 1 ≡ s .counts .nodes + (nestAdds (s .table) n amount + 1) = omega (arith, ap (λ (x : Counts). x .nodes) e) in
+    let h : nest s n amount way .draft .counts .nodes + 1 ≡ s .counts .nodes + (nestAdds (s .table) n amount + 1) = omega (arith, ap (λ (x : Counts). x .nodes) e) in
     λ i. countsOf (h i) (e i .bytes)
 
-pub nest-present : (s : Sheet) (n amount way : ℕ) → n < s .counts .nodes → nest s n amount way .node < nest s n amount way .sheet .counts .nodes
+pub nest-present : (s : Draft) (n amount way : ℕ) → n < s .counts .nodes → nest s n amount way .node < nest s n amount way .draft .counts .nodes
 unfolding nest
 nest-present s n amount way h = go (isNil s n || eqb amount 0)
   where
-    go : (q : Bool) → pick q (older s n) (add s 4 n amount way) .node < pick q (older s n) (add s 4 n amount way) .sheet .counts .nodes
+    go : (q : Bool) → pick q (older s n) (add s 4 n amount way) .node < pick q (older s n) (add s 4 n amount way) .draft .counts .nodes
     go true = h
     go false = omega arith
 
 module _ (c : Counts) (table text : List ℕ) (n amount way : ℕ) where
-  abbrev s₀ : Sheet
+  abbrev s₀ : Draft
   s₀ = counted c table text
 
   abbrev adds : ℕ
@@ -75,22 +75,22 @@ module _ (c : Counts) (table text : List ℕ) (n amount way : ℕ) where
   unfolding counted
   nest-alone e = e ∙ settle c table text (has c n) (nestRight amount way) true (λ s. nest s n amount way) (c .nodes + (adds + 0)) (c .bytes + 0) counts
     where
-      counts : c .nodes ≤ length table / 4 → c .bytes ≤ length text → has c n ≡ true → (nest s₀ n amount way .sheet .counts .nodes ≡ c .nodes + (adds + 0)) × (nest s₀ n amount way .sheet .counts .bytes ≡ c .bytes + 0)
+      counts : c .nodes ≤ length table / 4 → c .bytes ≤ length text → has c n ≡ true → (nest s₀ n amount way .draft .counts .nodes ≡ c .nodes + (adds + 0)) × (nest s₀ n amount way .draft .counts .bytes ≡ c .bytes + 0)
       counts h b p =
           let e = nest-counts s₀ n amount way in
           (omega (arith, ap (λ (x : Counts). x .nodes) e), ap (λ (x : Counts). x .bytes) e ∙ sym (add-zero (c .bytes)))
 
   -- ---- and Align
 
-  right-counts : c .nodes ≤ length table / 4 → c .bytes ≤ length text → has c n ≡ true → (hang s₀ n amount way .sheet .counts .nodes ≡ c .nodes + (adds + 1)) × (hang s₀ n amount way .sheet .counts .bytes ≡ c .bytes + 0)
+  right-counts : c .nodes ≤ length table / 4 → c .bytes ≤ length text → has c n ≡ true → (hang s₀ n amount way .draft .counts .nodes ≡ c .nodes + (adds + 1)) × (hang s₀ n amount way .draft .counts .bytes ≡ c .bytes + 0)
   unfolding counted
   right-counts h b p =
       let e = hang-counts s₀ n amount way in
       (ap (λ (x : Counts). x .nodes) e, ap (λ (x : Counts). x .bytes) e ∙ sym (add-zero (c .bytes)))
 
-  last : Grown (nest s₀ n amount way .sheet) (hang s₀ n amount way .sheet)
+  last : Grown (nest s₀ n amount way .draft) (hang s₀ n amount way .draft)
   unfolding hang
-  last = add-grown (nest s₀ n amount way .sheet) 9 (nest s₀ n amount way .node) 0 0
+  last = add-grown (nest s₀ n amount way .draft) 9 (nest s₀ n amount way .node) 0 0
 
   module _ {m : Made} {table₁ text₁ : List ℕ} (o₁ : outcome m table₁ text₁ ≡ settled (nest-asked (adds + 1)) (nest s₀ n amount way) table text) where
     pub hang-refused : {why : Why} → m ≡ Refused why → outcome m table₁ text₁ ≡ hangMade c table text n amount way
@@ -106,4 +106,4 @@ module _ (c : Counts) (table text : List ℕ) (n amount way : ℕ) where
         let o′ = rw (t .1) at o in
         let h = nest-present s₀ n amount way (ltb-true n (c .nodes) (begun .facts .operands)) in
         let present : has c₁ (nest s₀ n amount way .node) ≡ true = rw (t .0 .counts) (lt-ltb _ _ h) in
-        finish begun (step begun (t .0) (λ s. align s (nest s₀ n amount way .node)) (nest-grown s₀ n amount way) last (same (hang s₀ n amount way .sheet)) present refl refl o′)
+        finish begun (step begun (t .0) (λ s. align s (nest s₀ n amount way .node)) (nest-grown s₀ n amount way) last (same (hang s₀ n amount way .draft)) present refl refl o′)

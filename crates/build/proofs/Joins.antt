@@ -19,7 +19,7 @@ use Rattle.build.specs.declared.Why.{Why}
 use Rattle.build.specs.declared.Made.the-variants.{Node, Refused}
 use Rattle.build.specs.declared.Asked.{Asked}
 use Rattle.build.specs.declared.Asked.the-variants.{Granted, Denied}
-use Rattle.build.specs.Sheet.{Sheet, Built, counted, older, add}
+use Rattle.build.specs.Draft.{Draft, Built, counted, older, add}
 use Rattle.build.specs.Parts.{isNil, append, joined}
 use Rattle.build.specs.Solid.{solid}
 use Rattle.build.specs.Outcome.{Outcome, outcome, onward, answered, made}
@@ -44,7 +44,7 @@ below-more [] h b = tt
 below-more (n ∷ ns) h b = (omega (arith, b .0), below-more ns h (b .1))
 
 -- old nodes stay what they are
-solid-grown : {s s′ : Sheet} → Whole s → Grown s s′ → (ns : List ℕ) → Below (s .counts .nodes) ns → solid (s′ .table) ns ≡ solid (s .table) ns
+solid-grown : {s s′ : Draft} → Whole s → Grown s s′ → (ns : List ℕ) → Below (s .counts .nodes) ns → solid (s′ .table) ns ≡ solid (s .table) ns
 unfolding solid
 solid-grown w g [] b = refl
 solid-grown w g (n ∷ ns) b = rw (old-word w g n 0 (b .0) (omega arith), solid-grown w g ns (b .1)) refl
@@ -52,10 +52,10 @@ solid-grown w g (n ∷ ns) b = rw (old-word w g n 0 (b .0) (omega arith), solid-
 -- ---- how many nodes
 
 -- no byte, and as many nodes as are no Nil, but one
-abbrev pub Counted : Sheet → ℕ → List ℕ → Built → Type 0
-Counted s n ns b = (b .sheet .counts .nodes ≡ s .counts .nodes + (solid (s .table) (n ∷ ns) - 1)) × (b .sheet .counts .bytes ≡ s .counts .bytes)
+abbrev pub Counted : Draft → ℕ → List ℕ → Built → Type 0
+Counted s n ns b = (b .draft .counts .nodes ≡ s .counts .nodes + (solid (s .table) (n ∷ ns) - 1)) × (b .draft .counts .bytes ≡ s .counts .bytes)
 
-pub joined-counts : (s : Sheet) (n : ℕ) (ns : List ℕ) → Whole s → n < s .counts .nodes → Below (s .counts .nodes) ns → Counted s n ns (joined s n ns)
+pub joined-counts : (s : Draft) (n : ℕ) (ns : List ℕ) → Whole s → n < s .counts .nodes → Below (s .counts .nodes) ns → Counted s n ns (joined s n ns)
 unfolding joined solid
 joined-counts s n [] w h b = (one (isNil s n), refl)
   where
@@ -64,16 +64,16 @@ joined-counts s n [] w h b = (one (isNil s n), refl)
     one false = omega arith
 joined-counts s n (m ∷ ns) w h b =
     let g = append-grown s n m in
-    let ih = joined-counts (append s n m .sheet) (append s n m .node) ns (whole-grown w g) (append-present s n m h (b .0)) (below-more ns (more-nodes g) (b .1)) in
+    let ih = joined-counts (append s n m .draft) (append s n m .node) ns (whole-grown w g) (append-present s n m h (b .0)) (below-more ns (more-nodes g) (b .1)) in
     by ih (isNil s n) (isNil s m) refl refl
   where
     -- by what Append comes to
-    over-next : (x : Built) → append s n m ≡ x → Counted (append s n m .sheet) (append s n m .node) ns (joined (append s n m .sheet) (append s n m .node) ns) → (Counted (x .sheet) (x .node) ns (joined (x .sheet) (x .node) ns) → Counted s n (m ∷ ns) (joined (x .sheet) (x .node) ns)) → Counted s n (m ∷ ns) (joined (append s n m .sheet) (append s n m .node) ns)
+    over-next : (x : Built) → append s n m ≡ x → Counted (append s n m .draft) (append s n m .node) ns (joined (append s n m .draft) (append s n m .node) ns) → (Counted (x .draft) (x .node) ns (joined (x .draft) (x .node) ns) → Counted s n (m ∷ ns) (joined (x .draft) (x .node) ns)) → Counted s n (m ∷ ns) (joined (append s n m .draft) (append s n m .node) ns)
     over-next x e ih f =
-        subst (λ (y : Built). Counted s n (m ∷ ns) (joined (y .sheet) (y .node) ns)) (sym e)
-        (f (subst (λ (y : Built). Counted (y .sheet) (y .node) ns (joined (y .sheet) (y .node) ns)) e ih))
+        subst (λ (y : Built). Counted s n (m ∷ ns) (joined (y .draft) (y .node) ns)) (sym e)
+        (f (subst (λ (y : Built). Counted (y .draft) (y .node) ns (joined (y .draft) (y .node) ns)) e ih))
 
-    by : Counted (append s n m .sheet) (append s n m .node) ns (joined (append s n m .sheet) (append s n m .node) ns) → (p q : Bool) → isNil s n ≡ p → isNil s m ≡ q → Counted s n (m ∷ ns) (joined (append s n m .sheet) (append s n m .node) ns)
+    by : Counted (append s n m .draft) (append s n m .node) ns (joined (append s n m .draft) (append s n m .node) ns) → (p q : Bool) → isNil s n ≡ p → isNil s m ≡ q → Counted s n (m ∷ ns) (joined (append s n m .draft) (append s n m .node) ns)
     by ih true q p₁ q₁ = over-next (older s m) (append-left s n m p₁) ih (λ i. rw p₁ i)
     by ih false true p₁ q₁ = over-next (older s n) (append-right s n m p₁ q₁) ih (λ i. let j = rw p₁ at i in rw (p₁, q₁) j)
     by ih false false p₁ q₁ =
@@ -86,25 +86,25 @@ joined-counts s n (m ∷ ns) w h b =
 -- ---- the loop
 
 -- what is left to join comes to the whole
-pub record Along (c₀ : Counts) (table₀ text₀ : List ℕ) (whole : Sheet → Built) (c : Counts) (n : ℕ) (rest : List ℕ) (table text : List ℕ) : Type 0 where
+pub record Along (c₀ : Counts) (table₀ text₀ : List ℕ) (whole : Draft → Built) (c : Counts) (n : ℕ) (rest : List ℕ) (table text : List ℕ) : Type 0 where
   pub stands : Stands table₀ text₀ (counted c table text) c table text
   pub grown : Grown (counted c₀ table₀ text₀) (counted c table text)
   pub operand : n < c .nodes
   pub ends : joined (counted c table text) n rest ≡ whole (counted c₀ table₀ text₀)
 
-module _ {c₀ : Counts} {table₀ text₀ : List ℕ} {present amount right : Bool} {whole : Sheet → Built} (begun : Begun c₀ table₀ text₀ present amount right whole) where
+module _ {c₀ : Counts} {table₀ text₀ : List ℕ} {present amount right : Bool} {whole : Draft → Built} (begun : Begun c₀ table₀ text₀ present amount right whole) where
   pub along-start : (n : ℕ) (rest : List ℕ) → n < c₀ .nodes → joined (counted c₀ table₀ text₀) n rest ≡ whole (counted c₀ table₀ text₀) → Along c₀ table₀ text₀ whole c₀ n rest table₀ text₀
   along-start n rest h e = record { stands = begun .stands; grown = same (counted c₀ table₀ text₀); operand = h; ends = e }
 
   module _ {c : Counts} {n m : ℕ} {rest table text : List ℕ} (along : Along c₀ table₀ text₀ whole c n (m ∷ rest) table text) (present-m : m < c₀ .nodes) where
-    abbrev s : Sheet
+    abbrev s : Draft
     s = counted c table text
 
     before : c₀ .nodes ≤ c .nodes
     unfolding counted
     before = more-nodes (along .grown)
 
-    rest-is : joined (append s n m .sheet) (append s n m .node) rest ≡ whole (counted c₀ table₀ text₀)
+    rest-is : joined (append s n m .draft) (append s n m .node) rest ≡ whole (counted c₀ table₀ text₀)
     unfolding joined
     rest-is = along .ends
 
@@ -112,21 +112,21 @@ module _ {c₀ : Counts} {table₀ text₀ : List ℕ} {present amount right : B
     pub along-went : {r : Made} {table′ text′ : List ℕ} → outcome r table′ text′ ≡ appendMade c table text n m → Went table₀ text₀ (append s n m) r table′ text′
     along-went o =
         let two : has c n && has c m ≡ true = let l = before in rw (lt-ltb n (c .nodes) (along .operand), lt-ltb m (c .nodes) (omega arith)) refl in
-        let after : Grown (append s n m .sheet) (whole (counted c₀ table₀ text₀) .sheet) = rw (← rest-is) (joined-grown (append s n m .sheet) (append s n m .node) rest) in
+        let after : Grown (append s n m .draft) (whole (counted c₀ table₀ text₀) .draft) = rw (← rest-is) (joined-grown (append s n m .draft) (append s n m .node) rest) in
         step begun (along .stands) (λ x. append x n m) (along .grown) (append-grown s n m) after two refl refl o
 
     pub along-next : {r : Made} {table′ text′ : List ℕ} → outcome r table′ text′ ≡ appendMade c table text n m → {c′ : Counts} {n′ : NodeNo} → r ≡ Node c′ n′ → Along c₀ table₀ text₀ whole c′ (n′ .0) rest table′ text′
     unfolding counted
     along-next {table′ = table′} {text′ = text′} o {c′} {n′} e =
         let t = taken (along-went o) e in
-        let is : counted c′ table′ text′ ≡ append s n m .sheet = stands-counted (t .0) in
+        let is : counted c′ table′ text′ ≡ append s n m .draft = stands-counted (t .0) in
         let l = before in
         let there : n′ .0 < c′ .nodes = rw (t .1, t .0 .counts) (append-present s n m (along .operand) (omega arith)) in
         record {
-          stands = subst (λ (x : Sheet). Stands table₀ text₀ x c′ table′ text′) (sym is) (t .0);
-          grown = subst (λ (x : Sheet). Grown (counted c₀ table₀ text₀) x) (sym is) (then (along .grown) (append-grown s n m));
+          stands = subst (λ (x : Draft). Stands table₀ text₀ x c′ table′ text′) (sym is) (t .0);
+          grown = subst (λ (x : Draft). Grown (counted c₀ table₀ text₀) x) (sym is) (then (along .grown) (append-grown s n m));
           operand = there;
-          ends = ap₂ (λ (x : Sheet) (k : ℕ). joined x k rest) is (t .1) ∙ rest-is;
+          ends = ap₂ (λ (x : Draft) (k : ℕ). joined x k rest) is (t .1) ∙ rest-is;
         }
 
   pub along-end : {c : Counts} {n : NodeNo} {table text : List ℕ} → Along c₀ table₀ text₀ whole c (n .0) [] table text → outcome (Node c n) table text ≡ made c₀ table₀ text₀ present amount right whole
@@ -134,8 +134,8 @@ module _ {c₀ : Counts} {table₀ text₀ : List ℕ} {present amount right : B
   along-end {table = table} {text = text} a =
       finish begun
       (record {
-        answer = ap (λ (b : Built). Node (b .sheet .counts) (record { 0 = b .node })) (a .ends);
-        stands = subst (λ (b : Built). Stands table₀ text₀ (b .sheet) (b .sheet .counts) table text) (a .ends) (a .stands);
+        answer = ap (λ (b : Built). Node (b .draft .counts) (record { 0 = b .node })) (a .ends);
+        stands = subst (λ (b : Built). Stands table₀ text₀ (b .draft) (b .draft .counts) table text) (a .ends) (a .stands);
       })
 
 -- what was made, joined to each of a list in turn; a refusal is handed on
@@ -157,7 +157,7 @@ join-refused-on why table text (k ∷ ks) = join-refused-on why table text ks
 pub join-refused : {m : Made} {why : Why} (table text ks : List ℕ) → m ≡ Refused why → joinAll m table text ks ≡ outcome m table text
 join-refused {m} {why} table text ks e = rw e (join-refused-on why table text ks)
 
-module _ {c₀ : Counts} {table₀ text₀ : List ℕ} {present amount right : Bool} {whole : Sheet → Built} (begun : Begun c₀ table₀ text₀ present amount right whole) where
+module _ {c₀ : Counts} {table₀ text₀ : List ℕ} {present amount right : Bool} {whole : Draft → Built} (begun : Begun c₀ table₀ text₀ present amount right whole) where
   join-along : {c : Counts} {n : NodeNo} (ks : List ℕ) {table text : List ℕ} → Below (c₀ .nodes) ks → Along c₀ table₀ text₀ whole c (n .0) ks table text → joinAll (Node c n) table text ks ≡ made c₀ table₀ text₀ present amount right whole
   unfolding joinAll
   join-along [] b a = along-end begun a
@@ -168,7 +168,7 @@ module _ {c₀ : Counts} {table₀ text₀ : List ℕ} {present amount right : B
       ap (λ (m : Made). joinAll m (x .table) (x .text) ks) (went .answer) ∙ join-along ks (b .1) next
 
 -- the loop from its first answer
-pub join-whole : (A : Asked) {c₀ : Counts} {table₀ text₀ : List ℕ} {present amount right : Bool} {whole : Sheet → Built} (n : NodeNo) (ks : List ℕ) → ((why : Why) → A ≡ Denied why → outcome (Refused why) table₀ text₀ ≡ made c₀ table₀ text₀ present amount right whole)
+pub join-whole : (A : Asked) {c₀ : Counts} {table₀ text₀ : List ℕ} {present amount right : Bool} {whole : Draft → Built} (n : NodeNo) (ks : List ℕ) → ((why : Why) → A ≡ Denied why → outcome (Refused why) table₀ text₀ ≡ made c₀ table₀ text₀ present amount right whole)
     → (A ≡ Granted → Begun c₀ table₀ text₀ present amount right whole × Below (c₀ .nodes) ks × Along c₀ table₀ text₀ whole c₀ (n .0) ks table₀ text₀) → {m : Made} → m ≡ answered A (Node c₀ n) → joinAll m table₀ text₀ ks ≡ made c₀ table₀ text₀ present amount right whole
 join-whole A {c₀} {table₀} {text₀} {present} {amount} {right} {whole} n ks refused granted e = ap (λ (m : Made). joinAll m table₀ text₀ ks) e ∙ go A refl
   where

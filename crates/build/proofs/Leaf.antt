@@ -14,7 +14,7 @@ use Rattle.build.specs.declared.Made.{Made}
 use Rattle.build.specs.declared.Made.the-variants.{Node, Refused}
 use Rattle.build.specs.declared.Asked.{Asked}
 use Rattle.build.specs.declared.Asked.the-variants.{Granted, Denied}
-use Rattle.build.specs.Sheet.{Built, countsOf, counted, over, older, add}
+use Rattle.build.specs.Draft.{Built, countsOf, counted, over, older, add}
 use Rattle.build.specs.Outcome.{Outcome, asked, answered, outcome, added, settled, made}
 use Rattle.build.proofs.Room.{Allowed, allowed}
 use Rattle.build.proofs.Stand.{over-front, settle}

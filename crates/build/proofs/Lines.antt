@@ -14,7 +14,7 @@ use Rattle.build.specs.declared.Made.{Made}
 use Rattle.build.specs.declared.Made.the-variants.{Node, Refused}
 use Rattle.build.specs.declared.Asked.{Asked}
 use Rattle.build.specs.declared.Asked.the-variants.{Granted}
-use Rattle.build.specs.Sheet.{Sheet, Built, countsOf, counted}
+use Rattle.build.specs.Draft.{Draft, Built, countsOf, counted}
 use Rattle.build.specs.Parts.{nil, text, space, hardline, flatAlt}
 use Rattle.build.specs.Outcome.{Outcome, asked, outcome, onward, settled}
 use Rattle.build.specs.Constructors.{has, plainMade, flatAltMade}
@@ -23,10 +23,10 @@ use Rattle.build.proofs.Room.{stretch, allowed, granted}
 use Rattle.build.proofs.Stand.{Went, gone, taken, settle, Begun, begin, step, first-went, finish, first-denied, first-granted}
 
 -- one node and k bytes
-pub record One (flat : Sheet → Built) (k : ℕ) : Type 0 where
-  pub grows : (s : Sheet) → Grown s (flat s .sheet)
-  pub counts : (s : Sheet) → flat s .sheet .counts ≡ countsOf (s .counts .nodes + 1) (s .counts .bytes + k)
-  pub new : (s : Sheet) → flat s .node ≡ s .counts .nodes
+pub record One (flat : Draft → Built) (k : ℕ) : Type 0 where
+  pub grows : (s : Draft) → Grown s (flat s .draft)
+  pub counts : (s : Draft) → flat s .draft .counts ≡ countsOf (s .counts .nodes + 1) (s .counts .bytes + k)
+  pub new : (s : Draft) → flat s .node ≡ s .counts .nodes
 
 pub nil-one : One nil 0
 nil-one = record { grows = λ s. add-grown s 0 0 0 0; counts = λ s. ap (countsOf (s .counts .nodes + 1)) (sym (add-zero (s .counts .bytes))); new = λ s. refl }
@@ -35,30 +35,30 @@ pub space-one : One space 1
 unfolding text
 space-one = record { grows = λ s. text-grown s (32 ∷ []) 1; counts = λ s. refl; new = λ s. refl }
 
-module _ (c : Counts) (table text : List ℕ) {flat : Sheet → Built} {k : ℕ} (one : One flat k) where
-  abbrev pub whole : Sheet → Built
+module _ (c : Counts) (table text : List ℕ) {flat : Draft → Built} {k : ℕ} (one : One flat k) where
+  abbrev pub whole : Draft → Built
   whole s =
       let broken = hardline s in
-      let other = flat (broken .sheet) in
-      flatAlt (other .sheet) (broken .node) (other .node)
+      let other = flat (broken .draft) in
+      flatAlt (other .draft) (broken .node) (other .node)
 
-  abbrev s₀ : Sheet
+  abbrev s₀ : Draft
   s₀ = counted c table text
 
-  abbrev s₁ : Sheet
-  s₁ = hardline s₀ .sheet
+  abbrev s₁ : Draft
+  s₁ = hardline s₀ .draft
 
-  abbrev s₂ : Sheet
-  s₂ = flat s₁ .sheet
+  abbrev s₂ : Draft
+  s₂ = flat s₁ .draft
 
-  right-counts : c .nodes ≤ length table / 4 → c .bytes ≤ length text → true ≡ true → (whole s₀ .sheet .counts .nodes ≡ c .nodes + 3) × (whole s₀ .sheet .counts .bytes ≡ c .bytes + k)
+  right-counts : c .nodes ≤ length table / 4 → c .bytes ≤ length text → true ≡ true → (whole s₀ .draft .counts .nodes ≡ c .nodes + 3) × (whole s₀ .draft .counts .bytes ≡ c .bytes + k)
   unfolding counted
   right-counts n b t =
       let e = one .counts s₁ in
       (omega (arith, ap (λ (x : Counts). x .nodes) e), omega (arith, ap (λ (x : Counts). x .bytes) e))
 
   module _ (granted₃ : asked c (length table) (length text) true true true (c .nodes + 3) (c .bytes + k) ≡ Granted) where
-    last : Grown s₂ (whole s₀ .sheet)
+    last : Grown s₂ (whole s₀ .draft)
     last = add-grown s₂ 3 (hardline s₀ .node) (flat s₁ .node) 0
 
     begun : Begun c table text true true true whole
@@ -79,7 +79,7 @@ module _ (c : Counts) (table text : List ℕ) {flat : Sheet → Built} {k : ℕ}
         line-last : {m₃ : Made} {table₃ text₃ : List ℕ} → outcome m₃ table₃ text₃ ≡ flatAltMade c₂ table₂ text₂ (n₁ .0) (n₂ .0) → outcome m₃ table₃ text₃ ≡ plainMade c table text whole
         line-last o =
             let o′ = rw (taken went e .1, taken went₂ e₂ .1) at o in
-            finish begun (step begun (taken went₂ e₂ .0) (λ s. flatAlt s (hardline s₀ .node) (flat s₁ .node)) (then (add-grown s₀ 5 0 0 0) (one .grows s₁)) last (same (whole s₀ .sheet)) operands refl refl o′)
+            finish begun (step begun (taken went₂ e₂ .0) (λ s. flatAlt s (hardline s₀ .node) (flat s₁ .node)) (then (add-grown s₀ 5 0 0 0) (one .grows s₁)) last (same (whole s₀ .draft)) operands refl refl o′)
 
   -- ---- with its first part so many nodes are asked for
 

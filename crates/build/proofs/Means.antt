@@ -15,49 +15,49 @@ use Rattle.table.specs.Node.{wayOf}
 use Rattle.table.specs.Fault.{faultOf}
 use Rattle.table.specs.Unfold.{tree}
 use Rattle.table.specs.Document.{Doc, doc, nil, append, group, flatAlt, nest, hardline, text, annotated, union, align, fail}
-use Rattle.build.specs.Sheet.{Sheet, Built, older, add}
+use Rattle.build.specs.Draft.{Draft, Built, older, add}
 use Rattle.build.specs.Parts as parts
 use Rattle.build.specs.Documents.{appendDoc, groupDoc, nestDoc}
 use Rattle.build.proofs.Grow.{Grown, same, then, more-nodes, add-grown}
 use Rattle.build.proofs.Clean.{Clean, docOf, old-doc, clean-add, new-doc}
 use Rattle.build.proofs.Says.{nil-is, stays-is}
 
-pub record Makes (s : Sheet) (b : Built) (d : Doc) : Type 0 where
-  pub grown : Grown s (b .sheet)
-  pub clean : Clean (b .sheet)
-  pub present : b .node < b .sheet .counts .nodes
-  pub unfolds : docOf (b .sheet) (b .node) ≡ d
+pub record Makes (s : Draft) (b : Built) (d : Doc) : Type 0 where
+  pub grown : Grown s (b .draft)
+  pub clean : Clean (b .draft)
+  pub present : b .node < b .draft .counts .nodes
+  pub unfolds : docOf (b .draft) (b .node) ≡ d
 
 -- a sheet that was made keeps the older nodes and their documents
-pub there : {s : Sheet} {b : Built} {d : Doc} → Makes s b d → {n : ℕ} → n < s .counts .nodes → n < b .sheet .counts .nodes
+pub there : {s : Draft} {b : Built} {d : Doc} → Makes s b d → {n : ℕ} → n < s .counts .nodes → n < b .draft .counts .nodes
 there m h = let g = more-nodes (m .grown) in omega arith
 
-pub still : {s : Sheet} {b : Built} {d : Doc} → Clean s → Makes s b d → (n : ℕ) → n < s .counts .nodes → docOf (b .sheet) n ≡ docOf s n
+pub still : {s : Draft} {b : Built} {d : Doc} → Clean s → Makes s b d → (n : ℕ) → n < s .counts .nodes → docOf (b .draft) n ≡ docOf s n
 still c m n h = old-doc c (m .grown) n h
 
 -- one part after another
-pub after : {s : Sheet} {b b′ : Built} {d d′ : Doc} → Makes s b d → Makes (b .sheet) b′ d′ → Makes s b′ d′
+pub after : {s : Draft} {b b′ : Built} {d d′ : Doc} → Makes s b d → Makes (b .draft) b′ d′ → Makes s b′ d′
 after m m′ = record { grown = then (m .grown) (m′ .grown); clean = m′ .clean; present = m′ .present; unfolds = m′ .unfolds }
 
 -- the document said another way
-pub meaning : {s : Sheet} {b : Built} {d d′ : Doc} → d ≡ d′ → Makes s b d → Makes s b d′
+pub meaning : {s : Draft} {b : Built} {d d′ : Doc} → d ≡ d′ → Makes s b d → Makes s b d′
 meaning e m = record { grown = m .grown; clean = m .clean; present = m .present; unfolds = m .unfolds ∙ e }
 
-pub older-makes : {s : Sheet} → Clean s → (n : ℕ) → n < s .counts .nodes → Makes s (older s n) (docOf s n)
+pub older-makes : {s : Draft} → Clean s → (n : ℕ) → n < s .counts .nodes → Makes s (older s n) (docOf s n)
 older-makes {s} c n h = record { grown = same s; clean = c; present = h; unfolds = refl }
 
 -- ---- one node
 
-module _ {s : Sheet} (c : Clean s) where
+module _ {s : Draft} (c : Clean s) where
   abbrev N : ℕ
   N = s .counts .nodes
 
   -- the words are right, and the node unfolds to d
-  add-makes : (k a b e : ℕ) (d : Doc) → faultOf (s .text) N k a b e ≡ 0 → docOf (add s k a b e .sheet) N ≡ d → Makes s (add s k a b e) d
+  add-makes : (k a b e : ℕ) (d : Doc) → faultOf (s .text) N k a b e ≡ 0 → docOf (add s k a b e .draft) N ≡ d → Makes s (add s k a b e) d
   add-makes k a b e d f u = record { grown = add-grown s k a b e; clean = clean-add s k a b e c f; present = omega arith; unfolds = u }
 
   -- an older node in the sheet with one node more
-  kept : (k a b e n : ℕ) → n < N → doc (tree (add s k a b e .sheet .table) (s .text) n) ≡ docOf s n
+  kept : (k a b e n : ℕ) → n < N → doc (tree (add s k a b e .draft .table) (s .text) n) ≡ docOf s n
   kept k a b e n h = old-doc c (add-grown s k a b e) n h
 
   pub nil-makes : Makes s (parts.nil s) nil

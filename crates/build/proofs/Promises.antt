@@ -20,7 +20,7 @@ use Rattle.build.specs.declared.Counts.{Counts}
 use Rattle.build.specs.declared.Made.the-variants.{Node}
 use Rattle.build.specs.declared.Asked.{Asked}
 use Rattle.build.specs.declared.Asked.the-variants.{Granted, Denied}
-use Rattle.build.specs.Sheet.{Sheet, Built, counted}
+use Rattle.build.specs.Draft.{Draft, Built, counted}
 use Rattle.build.specs.Outcome.{asked, settled, made}
 use Rattle.build.specs.Constructors.{has, hasAll, nestRight, nilMade, appendMade, groupMade, flatAltMade, nestMade, hardlineMade, textMade, annotateMade, unionMade, alignMade, failMade, spaceMade, lineMade, line₀Made, softlineMade, softline₀Made, hangMade, indentMade, encloseMade, concatMade, intersperseMade}
 use Rattle.build.specs.Documents.{appendDoc, groupDoc, nestDoc, textDoc, spaceDoc, lineDoc, line₀Doc, softlineDoc, softline₀Doc, hangDoc, indentDoc, encloseDoc, concatDoc, intersperseDoc}
@@ -39,27 +39,27 @@ was-granted Granted b table text c n e = refl
 was-granted (Denied why) b table text c n e = let z : _≡_ {A = ℕ} 0 1 = cc in absurd (omega arith)
 
 module _ (c : Counts) (table text : List ℕ) where
-  abbrev s₀ : Sheet
+  abbrev s₀ : Draft
   s₀ = counted c table text
 
-  pub promise : (present amount right : Bool) (f : Sheet → Built) (d : Doc) → (Clean s₀ → present ≡ true → amount ≡ true → right ≡ true → Makes s₀ (f s₀) d) → Promise c table text (made c table text present amount right f) d
+  pub promise : (present amount right : Bool) (f : Draft → Built) (d : Doc) → (Clean s₀ → present ≡ true → amount ≡ true → right ≡ true → Makes s₀ (f s₀) d) → Promise c table text (made c table text present amount right f) d
   unfolding counted made
   promise present amount right f d makes c′ n e v =
       let b = f s₀ in
-      let p = passed c (length table) (length text) present amount right (b .sheet .counts .nodes) (b .sheet .counts .bytes) (was-granted (asked c (length table) (length text) present amount right (b .sheet .counts .nodes) (b .sheet .counts .bytes)) b table text c′ n e) in
+      let p = passed c (length table) (length text) present amount right (b .draft .counts .nodes) (b .draft .counts .bytes) (was-granted (asked c (length table) (length text) present amount right (b .draft .counts .nodes) (b .draft .counts .bytes)) b table text c′ n e) in
       let first = start c table text (p .counted-nodes) (p .counted-bytes) in
       let clean : Clean s₀ = record { whole = first .whole; faults = clean-of (s₀ .table) (s₀ .text) (c .nodes) (ap (λ (x : Fault). x .answer) v) } in
       let m = makes clean (p .operands) (p .amounts) (p .texts) in
       let o = made c table text present amount right f in
-      let went = part first f (m .grown) (room-of (b .sheet .counts) (more-nodes (m .grown)) (more-bytes (m .grown)) p) present amount right (p .operands) (p .amounts) (p .texts) {m = o .made} {table′ = o .table} {text′ = o .text} refl in
+      let went = part first f (m .grown) (room-of (b .draft .counts) (more-nodes (m .grown)) (more-bytes (m .grown)) p) present amount right (p .operands) (p .amounts) (p .texts) {m = o .made} {table′ = o .table} {text′ = o .text} refl in
       let t = taken went e in
-      let is : counted c′ (o .table) (o .text) ≡ b .sheet = stands-counted (t .0) in
+      let is : counted c′ (o .table) (o .text) ≡ b .draft = stands-counted (t .0) in
       record {
-        valid = subst (λ (s : Sheet). firstFault (s .table) (s .text) (s .counts .nodes) ≡ none) (sym is) (clean-none (m .clean));
+        valid = subst (λ (s : Draft). firstFault (s .table) (s .text) (s .counts .nodes) ≡ none) (sym is) (clean-none (m .clean));
         grown = rw (t .0 .counts) (more-nodes (m .grown));
-        older = λ k h. ap (λ (s : Sheet). docOf s k) is ∙ still clean m k h;
+        older = λ k h. ap (λ (s : Draft). docOf s k) is ∙ still clean m k h;
         present = rw (t .1, t .0 .counts) (m .present);
-        unfolds = ap (λ (s : Sheet). docOf s (n .0)) is ∙ ap (docOf (b .sheet)) (t .1) ∙ m .unfolds;
+        unfolds = ap (λ (s : Draft). docOf s (n .0)) is ∙ ap (docOf (b .draft)) (t .1) ∙ m .unfolds;
       }
 
   -- ---- of each

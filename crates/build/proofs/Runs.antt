@@ -13,7 +13,7 @@ use lib.ListN.{length, getD, take, drop, set, length-append, length-take, length
 use lib.Seq.{drop-cons, sets-eq}
 use lib.Dec.{eqb}
 use Rattle.table.specs.Node.{word}
-use Rattle.build.specs.Sheet.{over}
+use Rattle.build.specs.Draft.{over}
 use Rattle.build.specs.Solid.{solid}
 
 -- f tests every element of a list by p

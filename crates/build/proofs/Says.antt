@@ -10,12 +10,12 @@ use borrow.Author.Tests.{le-leb}
 use Rattle.table.specs.Node.{Node, nil, append, group, flatAlt, nest, hardline, text, annotated, union, align, fail, nodeOf, nodeAt, word}
 use Rattle.buffer.specs.Utf8.{ascii}
 use Rattle.table.specs.Fault.{faultAt}
-use Rattle.table.specs.Valid.{Sound}
+use Rattle.table.specs.Sound.{Sound}
 use Rattle.table.specs.Unfold.{Tree, treeOf, tree}
 use Rattle.table.specs.Document.{doc}
 use Rattle.table.proofs.Accept.{right-of}
 use Rattle.table.proofs.Unfolded.{tree-node}
-use Rattle.build.specs.Sheet.{Sheet}
+use Rattle.build.specs.Draft.{Draft}
 use Rattle.build.specs.Parts.{isNil, stays}
 use Rattle.build.specs.Documents.{isNilDoc, staysDoc}
 use Rattle.build.proofs.Clean.{Clean, docOf, sound-at}
@@ -68,7 +68,7 @@ doc-says bytes at n (union a b) p q h s = (sym (s .0), sym (s .1))
 doc-says bytes at n (align a) p q h s = (sym (s .0), sym (s .1))
 doc-says bytes at n fail p q h s = (sym (s .0), sym (s .1))
 
-module _ {s : Sheet} (c : Clean s) (n : ℕ) (h : n < s .counts .nodes) where
+module _ {s : Draft} (c : Clean s) (n : ℕ) (h : n < s .counts .nodes) where
   known : word (s .table) n 0 < 11
   unfolding faultAt
   known = right-of (s .text) n _ _ _ _ (c .faults n h) .known

@@ -18,7 +18,7 @@ use Rattle.build.specs.declared.Counts.{Counts}
 use Rattle.build.specs.declared.Made.{Made}
 use Rattle.build.specs.declared.Made.the-variants.{Node}
 use Rattle.build.specs.declared.Asked.{Asked}
-use Rattle.build.specs.Sheet.{Sheet, counted}
+use Rattle.build.specs.Draft.{Draft, counted}
 use Rattle.build.specs.Parts.{nil, joined, separated, intersperse}
 use Rattle.build.specs.Solid.{solid}
 use Rattle.build.specs.Outcome.{asked, answered, outcome, onward, made}
@@ -73,7 +73,7 @@ below-separated n [] h b = tt
 below-separated n (m ∷ ns) h b = (h, (b .0, below-separated n ns h (b .1)))
 
 module _ (n : ℕ) (ns : List ℕ) (some : 0 < length ns) where
-  pub intersperse-is : (s : Sheet) → joined s (getD ns 0 0) (separated n (drop 1 ns)) ≡ intersperse s ns n
+  pub intersperse-is : (s : Draft) → joined s (getD ns 0 0) (separated n (drop 1 ns)) ≡ intersperse s ns n
   unfolding intersperse
   intersperse-is s = by ns some
     where

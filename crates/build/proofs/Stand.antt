@@ -19,13 +19,13 @@ use Rattle.build.specs.declared.Made.{Made}
 use Rattle.build.specs.declared.Made.the-variants.{Node, Refused}
 use Rattle.build.specs.declared.Asked.{Asked}
 use Rattle.build.specs.declared.Asked.the-variants.{Granted, Denied}
-use Rattle.build.specs.Sheet.{Sheet, Built, counted, over}
+use Rattle.build.specs.Draft.{Draft, Built, counted, over}
 use Rattle.build.specs.Outcome.{past, asked, Outcome, outcome, onward, added, settled, made}
 use Rattle.build.proofs.Grow.{Whole, Grown, same, whole-grown, more-nodes, more-bytes}
 use Rattle.build.proofs.Room.{neither, stretch, fits-inside, Room, Allowed, allowed, granted}
 
 -- counts c over table and text, where sheet s was built over a first table and a first text
-pub record Stands (table₀ text₀ : List ℕ) (s : Sheet) (c : Counts) (table text : List ℕ) : Type 0 where
+pub record Stands (table₀ text₀ : List ℕ) (s : Draft) (c : Counts) (table text : List ℕ) : Type 0 where
   pub counts : c ≡ s .counts
   pub words : table ≡ over (s .table) table₀
   pub bytes : text ≡ over (s .text) text₀
@@ -46,7 +46,7 @@ over-over xs ys zs h =
     ap (λ (l : List ℕ). ys ++ l)
     (ap (λ (n : ℕ). drop n (over xs zs)) e ∙ drop-append-add xs (drop (length xs) zs) d ∙ drop-drop d (length xs) zs ∙ ap (λ (n : ℕ). drop n zs) (sym e))
 
-module _ {table₀ text₀ : List ℕ} {s : Sheet} {c : Counts} {table text : List ℕ} (h : Stands table₀ text₀ s c table text) where
+module _ {table₀ text₀ : List ℕ} {s : Draft} {c : Counts} {table text : List ℕ} (h : Stands table₀ text₀ s c table text) where
   pub same-words : length table ≡ length table₀
   same-words = let l = h .whole .words in let i = h .nodes-inside in ap length (h .words) ∙ length-over (s .table) table₀ (omega arith)
 
@@ -77,45 +77,45 @@ start c table text n b =
 
 -- a part gave what it was asked for
 pub record Went (table₀ text₀ : List ℕ) (b : Built) (m : Made) (table text : List ℕ) : Type 0 where
-  pub answer : m ≡ Node (b .sheet .counts) (record { 0 = b .node })
-  pub stands : Stands table₀ text₀ (b .sheet) (b .sheet .counts) table text
+  pub answer : m ≡ Node (b .draft .counts) (record { 0 = b .node })
+  pub stands : Stands table₀ text₀ (b .draft) (b .draft .counts) table text
 
-module _ (c : Counts) (table text : List ℕ) (present amount right : Bool) (f : Sheet → Built) where
+module _ (c : Counts) (table text : List ℕ) (present amount right : Bool) (f : Draft → Built) where
   abbrev asked-of : ℕ → ℕ → Asked
   asked-of nodes used = asked c (length table) (length text) present amount right nodes used
 
-  pub made-granted : (b : Built) → f (counted c table text) ≡ b → asked-of (b .sheet .counts .nodes) (b .sheet .counts .bytes) ≡ Granted → made c table text present amount right f ≡ added b table text
+  pub made-granted : (b : Built) → f (counted c table text) ≡ b → asked-of (b .draft .counts .nodes) (b .draft .counts .bytes) ≡ Granted → made c table text present amount right f ≡ added b table text
   unfolding made
   made-granted b e g = rw (e, g) refl
 
-  pub made-denied : (nodes used : ℕ) (why : Why) → f (counted c table text) .sheet .counts .nodes ≡ nodes → f (counted c table text) .sheet .counts .bytes ≡ used → asked-of nodes used ≡ Denied why → outcome (Refused why) table text ≡ made c table text present amount right f
+  pub made-denied : (nodes used : ℕ) (why : Why) → f (counted c table text) .draft .counts .nodes ≡ nodes → f (counted c table text) .draft .counts .bytes ≡ used → asked-of nodes used ≡ Denied why → outcome (Refused why) table text ≡ made c table text present amount right f
   unfolding made
   made-denied nodes used why n u d = rw (n, u, d) refl
 
   -- parts that come to the same
-  pub made-same : (g : Sheet → Built) → f (counted c table text) ≡ g (counted c table text) → made c table text present amount right f ≡ made c table text present amount right g
+  pub made-same : (g : Draft → Built) → f (counted c table text) ≡ g (counted c table text) → made c table text present amount right f ≡ made c table text present amount right g
   unfolding made
   made-same g e = rw e refl
 
   -- counts that are right where nothing comes before them
-  module _ (nodes used : ℕ) (right-counts : c .nodes ≤ length table / 4 → c .bytes ≤ length text → present ≡ true → (f (counted c table text) .sheet .counts .nodes ≡ nodes) × (f (counted c table text) .sheet .counts .bytes ≡ used)) where
-    pub asked-same : asked-of (f (counted c table text) .sheet .counts .nodes) (f (counted c table text) .sheet .counts .bytes) ≡ asked-of nodes used
+  module _ (nodes used : ℕ) (right-counts : c .nodes ≤ length table / 4 → c .bytes ≤ length text → present ≡ true → (f (counted c table text) .draft .counts .nodes ≡ nodes) × (f (counted c table text) .draft .counts .bytes ≡ used)) where
+    pub asked-same : asked-of (f (counted c table text) .draft .counts .nodes) (f (counted c table text) .draft .counts .bytes) ≡ asked-of nodes used
     unfolding asked
     asked-same = over-past (past c (length table) (length text)) refl
       where
-        over-operand : (q : Bool) → present ≡ q → past c (length table) (length text) ≡ false → asked-of (f (counted c table text) .sheet .counts .nodes) (f (counted c table text) .sheet .counts .bytes) ≡ asked-of nodes used
+        over-operand : (q : Bool) → present ≡ q → past c (length table) (length text) ≡ false → asked-of (f (counted c table text) .draft .counts .nodes) (f (counted c table text) .draft .counts .bytes) ≡ asked-of nodes used
         over-operand true q e =
             let i = neither _ _ e in
             let r = right-counts (ltb-false (length table / 4) (c .nodes) (i .0)) (ltb-false (length text) (c .bytes) (i .1)) q in
             rw (r .0, r .1) refl
         over-operand false q e = rw (e, q) refl
 
-        over-past : (q : Bool) → past c (length table) (length text) ≡ q → asked-of (f (counted c table text) .sheet .counts .nodes) (f (counted c table text) .sheet .counts .bytes) ≡ asked-of nodes used
+        over-past : (q : Bool) → past c (length table) (length text) ≡ q → asked-of (f (counted c table text) .draft .counts .nodes) (f (counted c table text) .draft .counts .bytes) ≡ asked-of nodes used
         over-past true e = rw e refl
         over-past false e = over-operand present refl e
 
 -- what was built over a sheet that stands, stands
-pub went-added : {table₀ text₀ : List ℕ} {s : Sheet} {c : Counts} {table text : List ℕ} → Stands table₀ text₀ s c table text → (b : Built) → Grown s (b .sheet) → Room (length table₀) (length text₀) (s .counts) (b .sheet .counts)
+pub went-added : {table₀ text₀ : List ℕ} {s : Draft} {c : Counts} {table text : List ℕ} → Stands table₀ text₀ s c table text → (b : Built) → Grown s (b .draft) → Room (length table₀) (length text₀) (s .counts) (b .draft .counts)
     → {m : Made} {table′ text′ : List ℕ} → outcome m table′ text′ ≡ added b table text → Went table₀ text₀ b m table′ text′
 unfolding added
 went-added {table₀} {text₀} {s} h b g r d =
@@ -126,8 +126,8 @@ went-added {table₀} {text₀} {s} h b g r d =
       stands =
           record {
             counts = refl;
-            words = ap (λ (o : Outcome). o .table) d ∙ ap (over (b .sheet .table)) (h .words) ∙ over-over (s .table) (b .sheet .table) table₀ (omega (arith, w .words, h .whole .words, more-nodes g));
-            bytes = ap (λ (o : Outcome). o .text) d ∙ ap (over (b .sheet .text)) (h .bytes) ∙ over-over (s .text) (b .sheet .text) text₀ (omega (arith, w .bytes, h .whole .bytes, more-bytes g));
+            words = ap (λ (o : Outcome). o .table) d ∙ ap (over (b .draft .table)) (h .words) ∙ over-over (s .table) (b .draft .table) table₀ (omega (arith, w .words, h .whole .words, more-nodes g));
+            bytes = ap (λ (o : Outcome). o .text) d ∙ ap (over (b .draft .text)) (h .bytes) ∙ over-over (s .text) (b .draft .text) text₀ (omega (arith, w .bytes, h .whole .bytes, more-bytes g));
             whole = w;
             nodes-inside = let i = fits-inside (r .nodes) n in omega arith;
             bytes-inside = fits-inside (r .used) (h .bytes-inside);
@@ -135,24 +135,24 @@ went-added {table₀} {text₀} {s} h b g r d =
     }
 
 -- one part more
-pub part : {table₀ text₀ : List ℕ} {s : Sheet} {c : Counts} {table text : List ℕ} → Stands table₀ text₀ s c table text → (f : Sheet → Built) → Grown s (f s .sheet) → Room (length table₀) (length text₀) (s .counts) (f s .sheet .counts)
+pub part : {table₀ text₀ : List ℕ} {s : Draft} {c : Counts} {table text : List ℕ} → Stands table₀ text₀ s c table text → (f : Draft → Built) → Grown s (f s .draft) → Room (length table₀) (length text₀) (s .counts) (f s .draft .counts)
     → (present amount right : Bool) → present ≡ true → amount ≡ true → right ≡ true → {m : Made} {table′ text′ : List ℕ} → outcome m table′ text′ ≡ made c table text present amount right f → Went table₀ text₀ (f s) m table′ text′
 part {table₀} {text₀} {s} {c} {table} {text} h f g r present amount right p a t e =
     let b = f s in
     let n : s .counts .nodes ≤ length table₀ / 4 = let i = h .nodes-inside in omega arith in
-    let ok : Allowed c (b .sheet .counts) (length table) (length text) present amount right =
+    let ok : Allowed c (b .draft .counts) (length table) (length text) present amount right =
     rw (same-words h, same-bytes h, h .counts) (record { counted-nodes = n; counted-bytes = h .bytes-inside; operands = p; amounts = a; texts = t; room = r }) in
     went-added h b g r (e ∙ made-granted c table text present amount right f b (ap f (stands-counted h)) (granted ok))
 
 -- what goes on from it
-pub gone : {table₀ text₀ : List ℕ} {b : Built} {m : Made} {table text : List ℕ} → Went table₀ text₀ b m table text → (next : Counts → ℕ → Outcome) → onward m table text next ≡ next (b .sheet .counts) (b .node)
+pub gone : {table₀ text₀ : List ℕ} {b : Built} {m : Made} {table text : List ℕ} → Went table₀ text₀ b m table text → (next : Counts → ℕ → Outcome) → onward m table text next ≡ next (b .draft .counts) (b .node)
 gone {table = table} {text = text} w next = ap (λ (k : Made). onward k table text next) (w .answer)
 
 -- its answer taken apart
-pub taken : {table₀ text₀ : List ℕ} {b : Built} {m : Made} {table text : List ℕ} → Went table₀ text₀ b m table text → {c : Counts} {n : NodeNo} → m ≡ Node c n → Stands table₀ text₀ (b .sheet) c table text × (n .0 ≡ b .node)
+pub taken : {table₀ text₀ : List ℕ} {b : Built} {m : Made} {table text : List ℕ} → Went table₀ text₀ b m table text → {c : Counts} {n : NodeNo} → m ≡ Node c n → Stands table₀ text₀ (b .draft) c table text × (n .0 ≡ b .node)
 taken {b = b} w {c} {n} e =
-    let q : Node c n ≡ Node (b .sheet .counts) (record { 0 = b .node }) = sym e ∙ w .answer in
-    let p : c ≡ b .sheet .counts = cc in
+    let q : Node c n ≡ Node (b .draft .counts) (record { 0 = b .node }) = sym e ∙ w .answer in
+    let p : c ≡ b .draft .counts = cc in
     let r : n ≡ record { 0 = b .node } = cc in
     let s = w .stands in
     (record { counts = p; words = s .words; bytes = s .bytes; whole = s .whole; nodes-inside = s .nodes-inside; bytes-inside = s .bytes-inside }, ap (λ (x : NodeNo). x .0) r)
@@ -172,13 +172,13 @@ done w = λ i. outcome (w .answer i) (w .stands .words i) (w .stands .bytes i)
 -- ---- the whole
 
 -- what the parts of a whole that was granted can count on
-pub record Begun (c : Counts) (table text : List ℕ) (present amount right : Bool) (f : Sheet → Built) : Type 0 where
-  pub facts : Allowed c (f (counted c table text) .sheet .counts) (length table) (length text) present amount right
+pub record Begun (c : Counts) (table text : List ℕ) (present amount right : Bool) (f : Draft → Built) : Type 0 where
+  pub facts : Allowed c (f (counted c table text) .draft .counts) (length table) (length text) present amount right
   pub stands : Stands table text (counted c table text) c table text
   pub whole : made c table text present amount right f ≡ added (f (counted c table text)) table text
 
-module _ (c : Counts) (table text : List ℕ) (present amount right : Bool) (f : Sheet → Built) (nodes used : ℕ) (right-counts : c .nodes ≤ length table / 4 → c .bytes ≤ length text → present ≡ true → (f (counted c table text) .sheet .counts .nodes ≡ nodes) × (f (counted c table text) .sheet .counts .bytes ≡ used)) where
-  asked-is : asked c (length table) (length text) present amount right (f (counted c table text) .sheet .counts .nodes) (f (counted c table text) .sheet .counts .bytes) ≡ asked c (length table) (length text) present amount right nodes used
+module _ (c : Counts) (table text : List ℕ) (present amount right : Bool) (f : Draft → Built) (nodes used : ℕ) (right-counts : c .nodes ≤ length table / 4 → c .bytes ≤ length text → present ≡ true → (f (counted c table text) .draft .counts .nodes ≡ nodes) × (f (counted c table text) .draft .counts .bytes ≡ used)) where
+  asked-is : asked c (length table) (length text) present amount right (f (counted c table text) .draft .counts .nodes) (f (counted c table text) .draft .counts .bytes) ≡ asked c (length table) (length text) present amount right nodes used
   asked-is = asked-same c table text present amount right f nodes used right-counts
 
   pub refuse : (why : Why) → asked c (length table) (length text) present amount right nodes used ≡ Denied why → outcome (Refused why) table text ≡ made c table text present amount right f
@@ -188,21 +188,21 @@ module _ (c : Counts) (table text : List ℕ) (present amount right : Bool) (f :
   unfolding made
   settle = ap (λ (a : Asked). settled a (f (counted c table text)) table text) (sym asked-is)
 
-  pub begin : Grown (counted c table text) (f (counted c table text) .sheet) → asked c (length table) (length text) present amount right nodes used ≡ Granted → Begun c table text present amount right f
+  pub begin : Grown (counted c table text) (f (counted c table text) .draft) → asked c (length table) (length text) present amount right nodes used ≡ Granted → Begun c table text present amount right f
   begin g e =
       let b = f (counted c table text) in
-      let n : c .nodes ≤ b .sheet .counts .nodes = unfold counted in more-nodes g in
-      let u : c .bytes ≤ b .sheet .counts .bytes = unfold counted in more-bytes g in
-      let a = allowed c (b .sheet .counts) (length table) (length text) present amount right n u (asked-is ∙ e) in
+      let n : c .nodes ≤ b .draft .counts .nodes = unfold counted in more-nodes g in
+      let u : c .bytes ≤ b .draft .counts .bytes = unfold counted in more-bytes g in
+      let a = allowed c (b .draft .counts) (length table) (length text) present amount right n u (asked-is ∙ e) in
       record {
         facts = a;
         stands = start c table text (a .counted-nodes) (a .counted-bytes);
         whole = made-granted c table text present amount right f b refl (asked-is ∙ e);
       }
 
-module _ {c₀ : Counts} {table₀ text₀ : List ℕ} {present₀ amount₀ right₀ : Bool} {whole : Sheet → Built} (begun : Begun c₀ table₀ text₀ present₀ amount₀ right₀ whole) where
+module _ {c₀ : Counts} {table₀ text₀ : List ℕ} {present₀ amount₀ right₀ : Bool} {whole : Draft → Built} (begun : Begun c₀ table₀ text₀ present₀ amount₀ right₀ whole) where
   -- room for what grew from the first sheet, where the whole grows from it
-  room-for : {s t : Sheet} → Grown (counted c₀ table₀ text₀) s → Grown s t → Grown t (whole (counted c₀ table₀ text₀) .sheet) → Room (length table₀) (length text₀) (s .counts) (t .counts)
+  room-for : {s t : Draft} → Grown (counted c₀ table₀ text₀) s → Grown s t → Grown t (whole (counted c₀ table₀ text₀) .draft) → Room (length table₀) (length text₀) (s .counts) (t .counts)
   unfolding counted
   room-for {s} {t} before here after =
       let r = begun .facts .room in
@@ -212,12 +212,12 @@ module _ {c₀ : Counts} {table₀ text₀ : List ℕ} {present₀ amount₀ rig
       }
 
   -- a part of the whole: the sheet before it grew from the first, and the whole grows from it
-  pub step : {s : Sheet} {c : Counts} {table text : List ℕ} → Stands table₀ text₀ s c table text → (f : Sheet → Built) → Grown (counted c₀ table₀ text₀) s → Grown s (f s .sheet) → Grown (f s .sheet) (whole (counted c₀ table₀ text₀) .sheet)
+  pub step : {s : Draft} {c : Counts} {table text : List ℕ} → Stands table₀ text₀ s c table text → (f : Draft → Built) → Grown (counted c₀ table₀ text₀) s → Grown s (f s .draft) → Grown (f s .draft) (whole (counted c₀ table₀ text₀) .draft)
       → {present amount right : Bool} → present ≡ true → amount ≡ true → right ≡ true → {m : Made} {table′ text′ : List ℕ} → outcome m table′ text′ ≡ made c table text present amount right f → Went table₀ text₀ (f s) m table′ text′
   step h f before here after {present} {amount} {right} p a t e = part h f here (room-for before here after) present amount right p a t e
 
   -- the first part, where it asks for the whole
-  pub first-went : (b : Built) → Grown (counted c₀ table₀ text₀) (b .sheet) → Grown (b .sheet) (whole (counted c₀ table₀ text₀) .sheet) → {m : Made} {table′ text′ : List ℕ} → outcome m table′ text′ ≡ added b table₀ text₀ → Went table₀ text₀ b m table′ text′
+  pub first-went : (b : Built) → Grown (counted c₀ table₀ text₀) (b .draft) → Grown (b .draft) (whole (counted c₀ table₀ text₀) .draft) → {m : Made} {table′ text′ : List ℕ} → outcome m table′ text′ ≡ added b table₀ text₀ → Went table₀ text₀ b m table′ text′
   first-went b here after o = went-added (begun .stands) b here (room-for (same (counted c₀ table₀ text₀)) here after) o
 
   -- the last part gives the whole

@@ -15,37 +15,37 @@ use Rattle.build.specs.declared.Made.{Made}
 use Rattle.build.specs.declared.Made.the-variants.{Node, Refused}
 use Rattle.build.specs.declared.Asked.{Asked}
 use Rattle.build.specs.declared.Asked.the-variants.{Granted, Denied}
-use Rattle.build.specs.Sheet.{Sheet, Built, countsOf, counted, over, add, write}
+use Rattle.build.specs.Draft.{Draft, Built, countsOf, counted, over, add, write}
 use Rattle.build.specs.Parts.{nil, text}
 use Rattle.build.specs.Outcome.{asked, outcome, added, made}
 use Rattle.build.proofs.Choices.{text-none, text-some}
 use Rattle.build.proofs.Room.{Allowed, allowed}
 use Rattle.build.proofs.Stand.{over-front, made-granted, made-denied}
 
-pub text-counts : (s : Sheet) (bytes : List ℕ) (columns : ℕ) → text s bytes columns .sheet .counts ≡ countsOf (s .counts .nodes + 1) (s .counts .bytes + length bytes)
+pub text-counts : (s : Draft) (bytes : List ℕ) (columns : ℕ) → text s bytes columns .draft .counts ≡ countsOf (s .counts .nodes + 1) (s .counts .bytes + length bytes)
 unfolding text
 text-counts s bytes columns = go (eqb (length bytes) 0) refl
   where
-    go : (q : Bool) → eqb (length bytes) 0 ≡ q → pick q (nil s) (add (write s bytes) 6 (s .counts .bytes) (length bytes) columns) .sheet .counts ≡ countsOf (s .counts .nodes + 1) (s .counts .bytes + length bytes)
+    go : (q : Bool) → eqb (length bytes) 0 ≡ q → pick q (nil s) (add (write s bytes) 6 (s .counts .bytes) (length bytes) columns) .draft .counts ≡ countsOf (s .counts .nodes + 1) (s .counts .bytes + length bytes)
     go true e = let z = eqb-true (length bytes) 0 e in ap (countsOf (s .counts .nodes + 1)) (omega arith)
     go false e = refl
 
-pub text-present : (s : Sheet) (bytes : List ℕ) (columns : ℕ) → text s bytes columns .node < text s bytes columns .sheet .counts .nodes
+pub text-present : (s : Draft) (bytes : List ℕ) (columns : ℕ) → text s bytes columns .node < text s bytes columns .draft .counts .nodes
 unfolding text
 text-present s bytes columns = go (eqb (length bytes) 0)
   where
-    go : (q : Bool) → pick q (nil s) (add (write s bytes) 6 (s .counts .bytes) (length bytes) columns) .node < pick q (nil s) (add (write s bytes) 6 (s .counts .bytes) (length bytes) columns) .sheet .counts .nodes
+    go : (q : Bool) → pick q (nil s) (add (write s bytes) 6 (s .counts .bytes) (length bytes) columns) .node < pick q (nil s) (add (write s bytes) 6 (s .counts .bytes) (length bytes) columns) .draft .counts .nodes
     go true = omega arith
     go false = omega arith
 
 module _ (c : Counts) (table letters bytes : List ℕ) (columns : ℕ) (right : Bool) where
-  abbrev s₀ : Sheet
+  abbrev s₀ : Draft
   s₀ = counted c table letters
 
   abbrev after : Counts
   after = countsOf (c .nodes + 1) (c .bytes + length bytes)
 
-  counts-are : text s₀ bytes columns .sheet .counts ≡ after
+  counts-are : text s₀ bytes columns .draft .counts ≡ after
   unfolding counted
   counts-are = text-counts s₀ bytes columns
 
@@ -78,7 +78,7 @@ module _ (c : Counts) (table letters bytes : List ℕ) (columns : ℕ) (right : 
 
     text-is : {m : Made} {table′ letters′ : List ℕ} → (b : Built) → text s₀ bytes columns ≡ b → outcome m table′ letters′ ≡ added b table letters → outcome m table′ letters′ ≡ made c table letters true true right (λ s. text s bytes columns)
     text-is b e o =
-        let n = sym (ap (λ (x : Built). x .sheet .counts) e) ∙ counts-are in
+        let n = sym (ap (λ (x : Built). x .draft .counts) e) ∙ counts-are in
         o ∙ sym (made-granted c table letters true true right (λ s. text s bytes columns) b e (rw n g))
 
     pub text-empty : length bytes ≡ 0 → {m : Made} {table′ : List ℕ} → m ≡ Node (countsOf (c .nodes + 1) (c .bytes)) (record { 0 = c .nodes }) → table′ ≡ over (take (c .nodes * 4) table ++ (0 ∷ 0 ∷ 0 ∷ 0 ∷ [])) table → outcome m table′ letters ≡ made c table letters true true right (λ s. text s bytes columns)

@@ -5,7 +5,7 @@ use mathlib.Core.List.{List, [], _∷_}
 use lib.Dec.{ltb, leb}
 use Rattle.table.specs.Fault.{columnsRight}
 use Rattle.build.specs.declared.Counts.{Counts}
-use Rattle.build.specs.Sheet.{Sheet, Built}
+use Rattle.build.specs.Draft.{Draft, Built}
 use Rattle.build.specs.Outcome.{Outcome, made}
 use Rattle.build.specs.Parts as parts
 
@@ -23,13 +23,13 @@ nestRight amount way = leb amount 1000 && leb way 1
 
 module _ (c : Counts) (table text : List ℕ) where
   -- no operand, nothing to be out of range
-  abbrev pub plainMade : (Sheet → Built) → Outcome
+  abbrev pub plainMade : (Draft → Built) → Outcome
   plainMade f = made c table text true true true f
 
-  abbrev pub oneMade : ℕ → (Sheet → Built) → Outcome
+  abbrev pub oneMade : ℕ → (Draft → Built) → Outcome
   oneMade n f = made c table text (has c n) true true f
 
-  abbrev pub twoMade : ℕ → ℕ → (Sheet → Built) → Outcome
+  abbrev pub twoMade : ℕ → ℕ → (Draft → Built) → Outcome
   twoMade a b f = made c table text (has c a && has c b) true true f
 
   abbrev pub nilMade : Outcome

@@ -1,5 +1,5 @@
 -- The definitions of the constructors, in the order in which they stand on each other.
-pub mod Sheet
+pub mod Draft
 pub mod Parts
 pub mod Solid
 pub mod Outcome

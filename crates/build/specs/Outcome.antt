@@ -12,7 +12,7 @@ use Rattle.build.specs.declared.Made.{Made}
 use Rattle.build.specs.declared.Made.the-variants.{Node, Refused}
 use Rattle.build.specs.declared.Asked.{Asked}
 use Rattle.build.specs.declared.Asked.the-variants.{Granted, Denied}
-use Rattle.build.specs.Sheet.{Sheet, Built, counted, over}
+use Rattle.build.specs.Draft.{Draft, Built, counted, over}
 
 -- document 01's number for each refusal
 abbrev pub number : Why → ℕ
@@ -63,7 +63,7 @@ onward (Refused why) table text next = outcome (Refused why) table text
 
 -- what was built stands over the front of table and text
 unfoldable pub added : Built → List ℕ → List ℕ → Outcome
-added b table text = outcome (Node (b .sheet .counts) (record { 0 = b .node })) (over (b .sheet .table) table) (over (b .sheet .text) text)
+added b table text = outcome (Node (b .draft .counts) (record { 0 = b .node })) (over (b .draft .table) table) (over (b .draft .text) text)
 
 -- a refusal leaves table and text unchanged
 abbrev pub settled : Asked → Built → List ℕ → List ℕ → Outcome
@@ -71,7 +71,7 @@ settled Granted b table text = added b table text
 settled (Denied why) b table text = outcome (Refused why) table text
 
 -- all parts, or nothing
-unfoldable pub made : Counts → List ℕ → List ℕ → Bool → Bool → Bool → (Sheet → Built) → Outcome
+unfoldable pub made : Counts → List ℕ → List ℕ → Bool → Bool → Bool → (Draft → Built) → Outcome
 made c table text present amount right parts =
     let b = parts (counted c table text) in
-    settled (asked c (length table) (length text) present amount right (b .sheet .counts .nodes) (b .sheet .counts .bytes)) b table text
+    settled (asked c (length table) (length text) present amount right (b .draft .counts .nodes) (b .draft .counts .bytes)) b table text

@@ -14,8 +14,8 @@ use Rattle.build.specs.Outcome.{Outcome}
 
 module _ (c : Counts) (table text : List ℕ) where
   -- the counted part validates
-  abbrev pub Valid : Type 0
-  Valid = firstFault (take (c .nodes * 4) table) (take (c .bytes) text) (c .nodes) ≡ none
+  abbrev pub ValidSoFar : Type 0
+  ValidSoFar = firstFault (take (c .nodes * 4) table) (take (c .bytes) text) (c .nodes) ≡ none
 
   -- what node n of the counted part unfolds to
   abbrev pub docAt : ℕ → Doc
@@ -23,7 +23,7 @@ module _ (c : Counts) (table text : List ℕ) where
 
 -- from counts c over table and text to counts c′ with node n
 pub record Builds (c : Counts) (table text : List ℕ) (o : Outcome) (d : Doc) (c′ : Counts) (n : NodeNo) : Type 0 where
-  pub valid : Valid c′ (o .table) (o .text)
+  pub valid : ValidSoFar c′ (o .table) (o .text)
   pub grown : c .nodes ≤ c′ .nodes
   pub older : (m : ℕ) → m < c .nodes → docAt c′ (o .table) (o .text) m ≡ docAt c table text m
   pub present : n .0 < c′ .nodes
@@ -31,4 +31,4 @@ pub record Builds (c : Counts) (table text : List ℕ) (o : Outcome) (d : Doc) (
 
 -- whenever it gives a node
 abbrev pub Promise : Counts → List ℕ → List ℕ → Outcome → Doc → Type 0
-Promise c table text o d = (c′ : Counts) (n : NodeNo) → o .made ≡ Node c′ n → Valid c table text → Builds c table text o d c′ n
+Promise c table text o d = (c′ : Counts) (n : NodeNo) → o .made ≡ Node c′ n → ValidSoFar c table text → Builds c table text o d c′ n

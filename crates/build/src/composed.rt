@@ -4,7 +4,7 @@ ghost use mathlib.Core.Bool.{true};
 ghost use Prim.Native.Nat.{_+_, _*_, _≤_};
 ghost use lib.Dec.{leb};
 ghost use lib.ListN.{length, take, replicate};
-ghost use Rattle.build.specs.Sheet.{counted};
+ghost use Rattle.build.specs.Draft.{counted};
 ghost use Rattle.build.specs.Parts.{line, line₀};
 ghost use Rattle.build.specs.Solid.{indentAdds};
 ghost use Rattle.build.specs.Outcome.{asked, outcome, settled, onward};

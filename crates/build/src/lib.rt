@@ -8,7 +8,7 @@ ghost use Prim.Native.Nat.{_+_, _-_, _*_, _≤_, _<_};
 ghost use lib.ListN.{length, take};
 ghost use lib.Dec.{eqb};
 ghost use Rattle.table.specs.Node.{word};
-ghost use Rattle.build.specs.Sheet.{countsOf, counted, over, add};
+ghost use Rattle.build.specs.Draft.{countsOf, counted, over, add};
 ghost use Rattle.build.specs.Parts.{stays, nest};
 ghost use Rattle.build.specs.Solid.{nestAdds};
 ghost use Rattle.build.specs.Outcome.{fits, asked, answered, outcome, settled, onward};

@@ -6,7 +6,7 @@ use mathlib.Core.List.{List, [], _∷_, _++_, append-nil}
 use native.Mathlib.Omega.{arith}
 use lib.ListN.{getD, length}
 use Rattle.table.specs.Node.{nodeAt}
-use Rattle.table.specs.Valid.{Sound}
+use Rattle.table.specs.Sound.{Sound}
 use Rattle.rules.specs.Layout.{flat, broken}
 use Rattle.machine.specs.Waiting.{Entry, node}
 use Rattle.machine.specs.Fit.{Item, item, Verdict, fits, wide, due, Walked, walk, say, look, fit, reread}

@@ -4,7 +4,7 @@ use Prim.Native.Nat.{ℕ, _-_, _*_, _≤_, _<_}
 use mathlib.Core.List.{List, _∷_, _++_}
 use lib.ListN.{length}
 use Rattle.table.specs.Node.{nodeAt}
-use Rattle.table.specs.Valid.{Valid}
+use Rattle.table.specs.Sound.{AllSound}
 use Rattle.rules.specs.Layout.{Mode, flat}
 use Rattle.machine.specs.Fit as machine
 use Rattle.machine.specs.Fit.{Item, item, Verdict, Walked, walk, say, reread}
@@ -37,7 +37,7 @@ verdictOf (Due n) = machine.due (n .0)
 -- what the fit test starts from: a valid table of N nodes, the group's child one of them, d entries waiting, and a column
 pub record Fitting (table w : List ℕ) (W x d c : ℕ) : Type 0 where
   pub N : ℕ
-  pub valid : Valid table 65536 N
+  pub valid : AllSound table 65536 N
   pub words : N * 4 ≤ length table
   pub small : N ≤ 1024
   pub child : x < N
@@ -56,7 +56,7 @@ pub record Fitted (table : List ℕ) (W x d c left : ℕ) (w : List ℕ) (r : Fi
 pub record Known (table : List ℕ) (n : ℕ) : Type 0 where
   pub N : ℕ
   pub size : ℕ
-  pub valid : Valid table size N
+  pub valid : AllSound table size N
   pub words : N * 4 ≤ length table
   pub node : n < N
 

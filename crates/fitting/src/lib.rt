@@ -9,7 +9,7 @@ use waiting::Mode;
 ghost use Prim.Native.Nat.{_+_, _*_, _≤_};
 ghost use lib.ListN.{length};
 ghost use Rattle.table.specs.Node.{nodeAt};
-ghost use Rattle.table.specs.Valid.{Sound};
+ghost use Rattle.table.specs.Sound.{Sound};
 ghost use Rattle.fitting.specs.Fitting.{Stepped, Fitting, Fitted, Known, Below};
 
 // Where one visit leads: down to a child, with so many nodes left to walk after it; past the node, at a column; or to a yes or a no.

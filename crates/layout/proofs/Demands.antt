@@ -15,9 +15,9 @@ use lib.ListN.{length, take, length-replicate}
 use lib.Seq.{take-append-seam, drop-append-seam}
 use borrow.Author.Tests.{le-leb}
 use Rattle.table.specs.Fault.{Fault, check}
-use Rattle.table.specs.Accepted.{Accepted}
+use Rattle.table.specs.Valid.{Valid}
 use Rattle.table.specs.Unfold.{Tree, tree, root}
-use Rattle.table.proofs.Accept.{accepted-of, of-accepted}
+use Rattle.table.proofs.Accept.{valid-if-zero, zero-if-valid}
 use Rattle.rules.specs.Layout as rules
 use Rattle.rules.specs.Call.{Given, buffersRight, limits, refusal, call, eventWords, wordsOf, padded}
 use Rattle.rules.proofs.Answers.{answered}
@@ -107,16 +107,16 @@ module _ (table text : List ℕ) (width limit room words work : ℕ) (r : Report
   within : Sizes width limit room words work → buffersRight g ≡ true
   within s = rw (le-leb _ _ (s .output), le-leb _ _ (s .events), le-leb _ _ (s .area), le-leb _ _ (s .columns), le-leb _ _ (s .steps))
 
-  pub laid-out : Sizes width limit room words work → Accepted table text → reported r out events ≡ rules.layout (limits g) (tree table text (root table))
-  laid-out s a = demand-2 ∙ call-run g (within s) (ap (λ (f : Fault). f .answer) (of-accepted table text a))
+  pub laid-out : Sizes width limit room words work → Valid table text → reported r out events ≡ rules.layout (limits g) (tree table text (root table))
+  laid-out s a = demand-2 ∙ call-run g (within s) (ap (λ (f : Fault). f .answer) (zero-if-valid table text a))
 
-  pub past-five : Sizes width limit room words work → Accepted table text → 0 < r .answer → 6 ≤ r .answer
+  pub past-five : Sizes width limit room words work → Valid table text → 0 < r .answer → 6 ≤ r .answer
   past-five s a z =
       let e : r .answer ≡ rules.layout (limits g) (tree table text (root table)) .answer = ap (λ (x : rules.Report). x .answer) (laid-out s a) in
       rw e (layout-past-five _ _ (rw e at z))
 
-  pub faulty : Sizes width limit room words work → (Accepted table text → ⊥) → reported r out events ≡ refusal (check table text .answer) (check table text .place)
-  faulty s ne = demand-2 ∙ call-fault g (within s) (λ z. ne (accepted-of table text z))
+  pub faulty : Sizes width limit room words work → (Valid table text → ⊥) → reported r out events ≡ refusal (check table text .answer) (check table text .place)
+  faulty s ne = demand-2 ∙ call-fault g (within s) (λ z. ne (valid-if-zero table text z))
 
   pub oversized : (Sizes width limit room words work → ⊥) → reported r out events ≡ refusal 1 0
   oversized ne = by (buffersRight g) refl

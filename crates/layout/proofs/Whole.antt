@@ -14,8 +14,8 @@ use Rattle.table.specs.Fault.{check}
 use Rattle.table.specs.Unfold.{tree, root}
 use Rattle.table.specs.declared.NodeNo.{NodeNo}
 use Rattle.choice.proofs.Tests.{and-true}
-use Rattle.table.proofs.Accept.{accepted-of}
-use Rattle.table.proofs.Sound.{valid-check}
+use Rattle.table.proofs.Accept.{valid-if-zero}
+use Rattle.table.proofs.Sound.{all-sound-of-check}
 use Rattle.rules.specs.Layout as rules
 use Rattle.rules.specs.Call.{Given, buffersRight, limits, refusal, call, wordsOf, eventWords}
 use Rattle.machine.proofs.Rules.{layout-is}
@@ -67,14 +67,14 @@ buffers-of g h =
 
 module _ (T tx out ev w : List ℕ) (W limit : ℕ) (right : buffersRight (given T tx W limit (length out) (length ev) (length w)) ≡ true) (sound : check T tx .answer ≡ 0) where
   pub nodes-small : length T / 4 < 4294967296
-  nodes-small = omega (arith, accepted-of T tx sound .words)
+  nodes-small = omega (arith, valid-if-zero T tx sound .words)
 
   pub start-of : Start T tx out ev w W (length T / 4)
   start-of =
-      let a = accepted-of T tx sound in
+      let a = valid-if-zero T tx sound in
       let b = buffers-of (given T tx W limit (length out) (length ev) (length w)) right in
       record {
-        valid = valid-check T tx sound;
+        valid = all-sound-of-check T tx sound;
         some = omega (arith, a .some, a .fours);
         words = omega arith;
         small = omega (arith, a .words);

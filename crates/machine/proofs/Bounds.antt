@@ -11,7 +11,7 @@ use mathlib.Core.List.{List, [], _∷_}
 use native.Mathlib.Omega.{arith}
 use lib.ListN.{length}
 use Rattle.table.specs.Node.{nodeAt}
-use Rattle.table.specs.Valid.{Valid}
+use Rattle.table.specs.Sound.{AllSound}
 use Rattle.rules.specs.Layout.{Page}
 use Rattle.machine.specs.Waiting.{Entry, node, trial, mark}
 use Rattle.machine.specs.Fit.{Item, item, Walked}
@@ -35,7 +35,7 @@ indents N b v (mark n l ∷ w) few s = indents N b v w few (s .1)
 
 -- ---- a run
 
-module _ (E : Env) (N : ℕ) (some : 0 < N) (few : N ≤ 1024) (valid : Valid (E .table) (length (E .str)) N) (room : E .limits .room ≤ 65536) where
+module _ (E : Env) (N : ℕ) (some : 0 < N) (few : N ≤ 1024) (valid : AllSound (E .table) (length (E .str)) N) (room : E .limits .room ≤ 65536) where
   reached-well : {p : Page} {left : ℕ} {over : Bool} {w : List Entry} → Reached E (N - 1) p left over w → Well (E .limits) N p w
   reached-well start = record { column = omega arith; fits = omega arith; room = room; stack = (omega arith, omega arith, tt) }
   reached-well (turned {p = p} {left = left} {over = over} {e = e} {w = w} r t) =
@@ -56,7 +56,7 @@ record Walking (N : ℕ) (is : List Item) (c : ℕ) : Type 0 where
   stack : FitStacked N is
   column : c ≤ 65536
 
-module _ (table : List ℕ) (len width N : ℕ) (few : N ≤ 1024) (valid : Valid table len N) (wide : width ≤ 65536) where
+module _ (table : List ℕ) (len width N : ℕ) (few : N ≤ 1024) (valid : AllSound table len N) (wide : width ≤ 65536) where
   walking : {is : List Item} {c : ℕ} → Walks table width N is c → Walking N is c
   walking (takes h k) = record { stack = (omega (arith, h), tt); column = k }
   walking (looks {n = n} {c = c} {m = m} {is = is} left r t) =

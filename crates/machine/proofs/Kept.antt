@@ -10,7 +10,7 @@ use lib.Dec.{leb, ltb}
 use borrow.Author.Tests.{leb-true}
 use Rattle.choice.specs.Pick.{pick}
 use Rattle.table.specs.Node.{Way, adds, subtracts, Node, nil, append, group, flatAlt, nest, hardline, text, annotated, union, align, fail, nodeAt}
-use Rattle.table.specs.Valid.{Sound, Valid}
+use Rattle.table.specs.Sound.{Sound, AllSound}
 use Rattle.rules.specs.Layout.{Limits, Page, Mode, flat, broken, fed, wrote, marked, nested}
 use Rattle.machine.specs.Waiting.{Saved, Entry, node, trial, mark, back, nextIndent}
 use Rattle.machine.specs.Fit.{Verdict, fits, wide, due, Item, item, reread, Walked, walk, say, hardlineFits, textFits, byMode, look, fit}
@@ -246,12 +246,12 @@ module _ (E : Env) (N : ℕ) where
       let s = q .stack in
       (record { column = q .column; fits = q .fits; room = q .room; stack = stacked-mono N _ _ _ _ w (s .3) (s .4) (s .5) }, omega arith, omega arith)
 
-  dueNode-next : Valid (E .table) (length (E .str)) N → (n i : ℕ) (m : Mode) (p : Page) (left : ℕ) (over : Bool) (w : List Entry)
+  dueNode-next : AllSound (E .table) (length (E .str)) N → (n i : ℕ) (m : Mode) (p : Page) (left : ℕ) (over : Bool) (w : List Entry)
       → Well (E .limits) N p (node n i m ∷ w) → Next (E .limits) N left (3 * left + suc (weight w)) (dueNode E n i m p left over w)
   dueNode-next valid n i m p zero over w q = (omega arith, omega arith)
   dueNode-next valid n i m p (suc left) over w q = visit-next (nodeAt (E .table) n) n i m p left over w (valid n (omega (arith, q .stack .0))) q
 
-pub turn-next : (E : Env) (N : ℕ) → Valid (E .table) (length (E .str)) N → (p : Page) (left : ℕ) (over : Bool) (e : Entry) (w : List Entry)
+pub turn-next : (E : Env) (N : ℕ) → AllSound (E .table) (length (E .str)) N → (p : Page) (left : ℕ) (over : Bool) (e : Entry) (w : List Entry)
     → Well (E .limits) N p (e ∷ w) → Next (E .limits) N left (3 * left + weight (e ∷ w)) (turn E p left over e w)
 unfolding turn
 turn-next E N valid p left over (node n i m) w q = dueNode-next E N valid n i m p left over w q

@@ -10,7 +10,7 @@ use lib.Dec.{leb, ltb}
 use Rattle.choice.specs.Pick.{pick}
 use Rattle.table.specs.Node.{Node, nil, append, group, flatAlt, nest, hardline, text, annotated, union, align, fail, nodeAt}
 use Rattle.table.specs.Unfold.{Tree, treeOf, tree}
-use Rattle.table.specs.Valid.{Sound, Valid}
+use Rattle.table.specs.Sound.{Sound, AllSound}
 use Rattle.table.proofs.Unfolded.{tree-node}
 use Rattle.rules.specs.Layout.{Limits, Page, blank, Mode, flat, broken, Outcome, done, failed, refused, steps, bytes, events, Report, report, also, andThen, try, chosen, next, nested, taken, fed, wrote, marked}
 use Rattle.rules.specs.Layout as rules
@@ -132,7 +132,7 @@ module _ (E : Env) (at : ℕ → Tree) where
   due-is (align a) n i m p ws = visit-stops L _ _
   due-is fail n i m p ws = visit-stops L _ _
 
-  module _ (N : ℕ) (valid : Valid (E .table) (length (E .str)) N) (unfolds : (n : ℕ) → n < N → at n ≡ treeOf (E .str) at n (nodeAt (E .table) n)) where
+  module _ (N : ℕ) (valid : AllSound (E .table) (length (E .str)) N) (unfolds : (n : ℕ) → n < N → at n ≡ treeOf (E .str) at n (nodeAt (E .table) n)) where
     group-is : (n a i : ℕ) (p : Page) (left : ℕ) (over : Bool) (w : List Entry)
         → left < L .limit → a < n → Well L N p (node n i broken ∷ w)
         → after p w over (chosen (rules.fit L (at a) flat (rules.rest L (waiting L at w)) (p .column) (made left)) (λ m s. lays a i m w p s))
@@ -219,7 +219,7 @@ root-is L at n =
     let e : L .limit - L .limit ≡ 0 = omega arith in
     ap report (whole-node L at blank n 0 broken [] false _ ∙ also-false (rules.lay L (at n) 0 broken [] blank (L .limit - L .limit))) ∙ ap (λ s. report (rules.lay L (at n) 0 broken [] blank s)) e
 
-pub layout-is : (table str : List ℕ) (L : Limits) (N : ℕ) → 0 < N → N ≤ 1024 → Valid table (length str) N → L .room ≤ 65536
+pub layout-is : (table str : List ℕ) (L : Limits) (N : ℕ) → 0 < N → N ≤ 1024 → AllSound table (length str) N → L .room ≤ 65536
     → layout (record { table = table; str = str; limits = L }) (N - 1) ≡ rules.layout L (tree table str (N - 1))
 unfolding layout
 layout-is table str L N some few valid room =

@@ -9,7 +9,7 @@ use lib.ListN.{length}
 use lib.Dec.{leb}
 use Rattle.table.specs.Node.{Node, nil, append, group, flatAlt, nest, hardline, text, annotated, union, align, fail, nodeAt}
 use Rattle.table.specs.Unfold.{Tree, treeOf}
-use Rattle.table.specs.Valid.{Sound, Valid}
+use Rattle.table.specs.Sound.{Sound, AllSound}
 use Rattle.rules.specs.Layout.{Limits, Mode, flat, broken, says, spent}
 use Rattle.rules.specs.Layout as rules
 use Rattle.machine.specs.Waiting.{Entry, node, trial, mark}
@@ -116,7 +116,7 @@ module _ (L : Limits) (at : ℕ → Tree) where
     due-is (align a) n m k c = visit-stops L _ _
     due-is fail n m k c = visit-stops L _ _
 
-    module _ (table : List ℕ) (N : ℕ) (valid : Valid table (length str) N) (unfolds : (n : ℕ) → n < N → at n ≡ treeOf str at n (nodeAt table n)) where
+    module _ (table : List ℕ) (N : ℕ) (valid : AllSound table (length str) N) (unfolds : (n : ℕ) → n < N → at n ≡ treeOf str at n (nodeAt table n)) where
       pub fit-is : (left : ℕ) (is : List Item) (c : ℕ) → left ≤ L .limit → Items N is → walks is c (L .limit - left) ≡ said (fit table (L .width) left is c)
       unfolding walks fit
       fit-is zero [] c h g = refl

@@ -10,7 +10,7 @@ use lib.ListN.{length, take, drop, set, getD}
 use borrow.Author.Tests.{leb-true, ne-eqb}
 use Rattle.build.specs.declared.Counts.{Counts}
 use Rattle.build.specs.declared.Made.{Made}
-use Rattle.build.specs.Sheet.{countsOf}
+use Rattle.build.specs.Draft.{countsOf}
 use Rattle.build.specs.Outcome.{outcome}
 use Rattle.build.specs.declared.Why.the-variants.{Sizes}
 use Rattle.build.specs.declared.Made.the-variants.{Refused}

@@ -10,7 +10,7 @@ use lib.ListN.{length, getD, set, drop}
 use Rattle.choice.specs.Pick.{pick}
 use Rattle.build.specs.declared.Counts.{Counts}
 use Rattle.build.specs.declared.Made.{Made}
-use Rattle.build.specs.Sheet.{countsOf}
+use Rattle.build.specs.Draft.{countsOf}
 use Rattle.build.specs.Outcome.{Outcome, outcome}
 use Rattle.build.specs.Constructors.{encloseMade}
 use Rattle.numbered.specs.Building.{left, answerOf, countsAfter, settled, built, known, readingMade, anyMade, makes}

@@ -9,7 +9,7 @@ use Rattle.choice.specs.Pick.{pick}
 use Rattle.build.specs.declared.Counts.{Counts}
 use Rattle.build.specs.declared.Made.{Made}
 use Rattle.build.specs.declared.Made.the-variants.{Node, Refused}
-use Rattle.build.specs.Sheet.{countsOf}
+use Rattle.build.specs.Draft.{countsOf}
 use Rattle.build.specs.Outcome.{Outcome, number}
 use Rattle.build.specs.Constructors as c
 use Rattle.block.specs.declared.Block.{Block}

@@ -5,7 +5,7 @@ use build::Why;
 ghost use mathlib.Core.Path.{_≡_};
 ghost use Prim.Native.Nat.{_≤_};
 ghost use lib.ListN.{length, getD};
-ghost use Rattle.build.specs.Sheet.{countsOf};
+ghost use Rattle.build.specs.Draft.{countsOf};
 ghost use Rattle.build.specs.Outcome.{number};
 ghost use Rattle.numbered.specs.Building.{answerOf, countsAfter};
 

@@ -7,7 +7,7 @@ use mathlib.Core.Bool.{Bool}
 use mathlib.Core.List.{List, [], _∷_}
 use lib.ListN.{length, getD}
 use Rattle.table.specs.Node.{Node, nest, Way, wayOf, nodeOf, nodeAt}
-use Rattle.table.specs.Valid.{Valid, Sound}
+use Rattle.table.specs.Sound.{AllSound, Sound}
 use Rattle.table.specs.declared.Indent.{Indent}
 use Rattle.table.proofs.Nodes.{node-is}
 use Rattle.rules.specs.Layout.{Limits, Page, Mode, nested}
@@ -32,7 +32,7 @@ next-within : (L : Limits) (N left left′ μ μ′ : ℕ) (t : Turned) → left
 next-within L N left left′ μ μ′ (on p l o w) le lm h = (h .0, omega (arith, h .1), omega (arith, h .2))
 next-within L N left left′ μ μ′ (stop a n l) le lm h = (h .0, omega (arith, h .1))
 
-pub again-next : (E : Env) (N : ℕ) → Valid (E .table) (length (E .str)) N → (k left μ : ℕ) (t : Turned) → Next (E .limits) N left μ t → Next (E .limits) N left μ (again E k t)
+pub again-next : (E : Env) (N : ℕ) → AllSound (E .table) (length (E .str)) N → (k left μ : ℕ) (t : Turned) → Next (E .limits) N left μ t → Next (E .limits) N left μ (again E k t)
 again-next E N valid zero left μ t h = h
 again-next E N valid (suc k) left μ (on p l o []) h = h
 again-next E N valid (suc k) left μ (on p l o (e ∷ w)) h =

@@ -10,7 +10,7 @@ use lib.Seq.{length-take-le}
 use lib.Dec.{ltb}
 use Rattle.rules.specs.Call.{eventWords}
 use Rattle.choice.specs.Pick.{pick}
-use Rattle.table.specs.Valid.{Valid}
+use Rattle.table.specs.Sound.{AllSound}
 use Rattle.table.specs.declared.NodeNo.{NodeNo}
 use Rattle.rules.specs.Layout.{Page, Report, marked}
 use Rattle.machine.specs.Waiting.{Entry, node, trial, mark}
@@ -31,7 +31,7 @@ use Rattle.render.specs.Best.{Laid}
 
 -- ---- several turns of the step function in one
 
-module _ (E : Env) (N : ℕ) (valid : Valid (E .table) (length (E .str)) N) where
+module _ (E : Env) (N : ℕ) (valid : AllSound (E .table) (length (E .str)) N) where
   -- the report x is that of a run from t, which is well, has no more steps left than `left`, and a measure below `most`
   abbrev Reaches : ℕ → ℕ → Report → Turned → Type 0
   Reaches left most x (on p left′ o w) =

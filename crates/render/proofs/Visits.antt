@@ -6,7 +6,7 @@ use native.Mathlib.Omega.{arith}
 use mathlib.Core.List.{List, _∷_}
 use lib.ListN.{getD, length}
 use Rattle.table.specs.Node.{Node, fail, wayOf, nodeOf, nodeAt}
-use Rattle.table.specs.Valid.{Sound}
+use Rattle.table.specs.Sound.{Sound}
 use Rattle.table.specs.declared.Indent.{Indent}
 use Rattle.rules.specs.Layout.{Limits, Page, nested}
 use Rattle.machine.specs.Waiting.{Entry}

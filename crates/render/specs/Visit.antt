@@ -6,7 +6,7 @@ use mathlib.Core.List.{List, [], _∷_}
 use lib.ListN.{length}
 use Rattle.rules.specs.Call.{eventWords}
 use Rattle.table.specs.Node.{nodeAt}
-use Rattle.table.specs.Valid.{Valid}
+use Rattle.table.specs.Sound.{AllSound}
 use Rattle.rules.specs.Layout.{Page}
 use Rattle.machine.specs.Waiting.{Entry}
 use Rattle.machine.specs.Turn.{Env, Turned, on, stop, turn, visit}
@@ -27,7 +27,7 @@ envOf T tx out ev W limit =
 
 -- a valid table of N nodes, at least one; sizes within bounds
 pub record Start (T tx out ev w : List ℕ) (W N : ℕ) : Type 0 where
-  pub valid : Valid T (length tx) N
+  pub valid : AllSound T (length tx) N
   pub some : 0 < N
   pub words : N * 4 ≤ length T
   pub small : N ≤ 1024

@@ -14,7 +14,7 @@ use Rattle.build.specs.declared.Counts.{Counts}
 use Rattle.build.specs.declared.Made.{Made}
 use Rattle.build.specs.declared.Made.the-variants.{Node}
 use Rattle.build.specs.Documents.{appendDoc, joinedDoc, concatDoc}
-use Rattle.build.specs.Promise.{Valid}
+use Rattle.build.specs.Promise.{ValidSoFar}
 use Rattle.pallets.specs.Lines.{indexOf, lines}
 use Rattle.pallets.proofs.Reading.{done, line-first}
 use Rattle.words.specs.declared.Shared.{Shared}
@@ -50,13 +50,13 @@ joined-nil (d ∷ ds) = refl
 
 -- a valid table with its shared nodes, and the lines up to a place, which with those to come are all
 pub record Lined (shared : Shared) (input : List ℕ) (at : ℕ) (c : Counts) (t x : List ℕ) (n : NodeNo) : Type 0 where
-  pub valid : Valid c t x
+  pub valid : ValidSoFar c t x
   pub shares : Shares c t x shared
   pub said : Doc
   pub is : Is c t x n said
   pub rest : joinedDoc said (map partDoc (lines (drop at input))) ≡ linesDoc input
 
-pub none-lined : (input : List ℕ) (c : Counts) (t x : List ℕ) (shared : Shared) → Valid c t x → Shares c t x shared → Lined shared input 0 c t x (shared .none)
+pub none-lined : (input : List ℕ) (c : Counts) (t x : List ℕ) (shared : Shared) → ValidSoFar c t x → Shares c t x shared → Lined shared input 0 c t x (shared .none)
 unfolding linesDoc
 none-lined input c t x shared v s = record { valid = v; shares = s; said = nil; is = s .none; rest = joined-nil (map partDoc (lines input)) }
 
@@ -81,7 +81,7 @@ module _ {shared : Shared} {input : List ℕ} {at : ℕ} {c : Counts} {t x : Lis
 
 -- ---- what a caller has of an answer
 
-pub begun : (table text : List ℕ) {r : Start} {c : Counts} {shared : Shared} → r ≡ start.Ready c shared → Started r table text → Valid c table text × Shares c table text shared
+pub begun : (table text : List ℕ) {r : Start} {c : Counts} {shared : Shared} → r ≡ start.Ready c shared → Started r table text → ValidSoFar c table text × Shares c table text shared
 begun table text is s = subst (λ (r : Start). Started r table text) is s
 
 pub joined : (input : List ℕ) (shared : Shared) (table text : List ℕ) {r r′ : Lines} → r ≡ r′ → Joined input shared r table text → Joined input shared r′ table text

@@ -3,7 +3,7 @@
 ghost use Rattle.table.specs.Document as document;
 ghost use Rattle.table.specs.Document.{Doc};
 ghost use Rattle.build.specs.Documents.{appendDoc};
-ghost use Rattle.build.specs.Promise.{Valid};
+ghost use Rattle.build.specs.Promise.{ValidSoFar};
 ghost use Rattle.pallets.specs.Lines.{lines};
 ghost use Rattle.pallets.specs.Pallets.{parsed};
 ghost use Rattle.words.specs.Documents.{filledDoc};
@@ -86,7 +86,7 @@ fn added(
 
 // Adds the lines of the input in order.
 fn add_lines(c: Counts, table: &mut [u32], text: &mut [u8], shared: Shared, input: &[u8]) -> Lines
-    ensures { λ r. ⌜ (Valid c (now (table .entry)) (now (text .entry)) → Shares c (now (table .entry)) (now (text .entry)) shared → Joined (now (input .entry)) shared r (now (table .exit)) (now (text .exit))) ⌝ }
+    ensures { λ r. ⌜ (ValidSoFar c (now (table .entry)) (now (text .entry)) → Shares c (now (table .entry)) (now (text .entry)) shared → Joined (now (input .entry)) shared r (now (table .exit)) (now (text .exit))) ⌝ }
 {
     let mut c = c;
     let mut n = shared.none;
@@ -130,7 +130,7 @@ fn footed(
 
 // The lines of the input and the footer, over the shared nodes.
 fn whole(c: Counts, table: &mut [u32], text: &mut [u8], shared: Shared, input: &[u8]) -> Built
-    ensures { λ r. ⌜ (Valid c (now (table .entry)) (now (text .entry)) → Shares c (now (table .entry)) (now (text .entry)) shared → Shows (now (input .entry)) r (now (table .exit)) (now (text .exit))) ⌝ }
+    ensures { λ r. ⌜ (ValidSoFar c (now (table .entry)) (now (text .entry)) → Shares c (now (table .entry)) (now (text .entry)) shared → Shows (now (input .entry)) r (now (table .exit)) (now (text .exit))) ⌝ }
 {
     let lines = add_lines(c, table, text, shared, input);
     match lines {

@@ -11,13 +11,13 @@ use Rattle.table.specs.Unfold.{tree, root}
 use Rattle.rules.specs.Layout.{Report, layout}
 use Rattle.rules.specs.Call.{Given, buffersRight, limits, refusal, unlessFault, call}
 use Rattle.rules.specs.Law.{Differ, document, ValidTable, Unrefused, Alike}
-use Rattle.table.proofs.Accept.{of-accepted}
+use Rattle.table.proofs.Accept.{zero-if-valid}
 use Rattle.rules.proofs.Hold.{laws-hold}
 
 -- a valid table that is not refused for sizes is run
 runs : (g : Given) → ValidTable g → Unrefused (call g) → call g ≡ layout (limits g) (tree (g .table) (g .text) (root (g .table)))
 unfolding call
-runs g v u = by (buffersRight g) (check (g .table) (g .text)) (of-accepted (g .table) (g .text) v) (u .for-sizes)
+runs g v u = by (buffersRight g) (check (g .table) (g .text)) (zero-if-valid (g .table) (g .text) v) (u .for-sizes)
   where
     laid : Report
     laid = layout (limits g) (tree (g .table) (g .text) (root (g .table)))

@@ -11,7 +11,7 @@ use Rattle.table.specs.Fault.{check}
 use Rattle.table.specs.Document.{Doc}
 use Rattle.rules.specs.Call.{Given, call}
 use Rattle.rules.specs.Law.{document, ValidTable}
-use Rattle.table.proofs.Accept.{accepted-of}
+use Rattle.table.proofs.Accept.{valid-if-zero}
 use Rattle.rules.proofs.Case.{ascii-bytes, on, same}
 
 -- a table over the text of all pairs
@@ -39,7 +39,7 @@ laid g bytes t =
     let valid = eqb (check (g .table) (g .text) .answer) 0 in
     let answer = eqb (call g .answer) 0 in
     let (v, a) = halves valid answer (halves (valid && answer) _ t .0) in
-    (accepted-of (g .table) (g .text) (eqb→eq _ 0 v), eqb→eq _ 0 a)
+    (valid-if-zero (g .table) (g .text) (eqb→eq _ 0 v), eqb→eq _ 0 a)
   where
     halves : (a b : Bool) → T (a && b) → T a × T b
     halves true b t = (tt, t)

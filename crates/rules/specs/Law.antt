@@ -3,7 +3,7 @@
 use Prim.Native.Nat.{ℕ, _+_}
 use mathlib.Core.Path.{_≡_}
 use Rattle.table.specs.Node.{Way}
-use Rattle.table.specs.Accepted.{Accepted}
+use Rattle.table.specs.Valid.{Valid}
 use Rattle.table.specs.Unfold.{tree, root}
 use Rattle.table.specs.Document.{Doc, nil, append, group, flatAlt, nest, annotated, union, align, fail, doc}
 use Rattle.rules.specs.Layout.{Report}
@@ -55,7 +55,7 @@ document g = doc (tree (g .table) (g .text) (root (g .table)))
 
 -- its table, with its text, is valid
 abbrev pub ValidTable : Given → Type 0
-ValidTable g = Accepted (g .table) (g .text)
+ValidTable g = Valid (g .table) (g .text)
 
 -- not refused for sizes, steps or room
 pub record Unrefused (r : Report) : Type 0 where

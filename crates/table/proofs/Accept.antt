@@ -3,7 +3,7 @@
 --     clean-of, of-clean       the first N nodes have no fault, and each of them has none
 --     first-zero, first-next, first-here   the first fault, node by node
 --     check-sizes, check-nodes 1 comes first, then the nodes
---     accepted-of, of-accepted, accepted   `check` answers 0, and the table is accepted; both ways
+--     valid-if-zero, zero-if-valid, accepted   `check` answers 0, and the table is accepted; both ways
 -- Assumes nothing.
 use Prim.Native.Nat.{ℕ, zero, suc, _+_, _/_, _%_, _≤_, _<_}
 use native.Mathlib.Omega.{arith}
@@ -20,7 +20,7 @@ use Rattle.choice.specs.Pick.{pick}
 use Rattle.table.specs.Kinds.{kindAt}
 use Rattle.buffer.specs.Utf8.{wellFormed, ascii}
 use Rattle.table.specs.Fault.{Fault, fault, none, unusedZero, childrenBelow, nestInRange, columnsRight, faultOf, faultAt, orElse, firstFault, sizesRight, check}
-use Rattle.table.specs.Accepted.{NodeRight, Accepted}
+use Rattle.table.specs.Valid.{NodeRight, Valid}
 use Rattle.choice.proofs.Tests.{and-true, true-and, or-true, true-or, passed, passes}
 use Rattle.buffer.proofs.Octets.{ascii-well}
 
@@ -182,11 +182,11 @@ module _ (table text : List ℕ) where
       (omega arith, eqb-true (w % 4) 0 (r .1), leb-true w 4096 (q .1), leb-true (length text) 65536 (p .1))
 
   -- what is accepted is as document 01 asks
-  pub accepted-of : check table text .answer ≡ 0 → Accepted table text
+  pub valid-if-zero : check table text .answer ≡ 0 → Valid table text
   unfolding check
-  accepted-of e = go (sizesRight (length table) (length text)) refl e
+  valid-if-zero e = go (sizesRight (length table) (length text)) refl e
     where
-      go : (q : Bool) → sizesRight (length table) (length text) ≡ q → pick q (firstFault table text (length table / 4)) (fault 1 0) .answer ≡ 0 → Accepted table text
+      go : (q : Bool) → sizesRight (length table) (length text) ≡ q → pick q (firstFault table text (length table / 4)) (fault 1 0) .answer ≡ 0 → Valid table text
       go true q e =
           let s = sizes-of q in
           record {
@@ -199,9 +199,9 @@ module _ (table text : List ℕ) where
       go false q e = absurd (omega arith)
 
   -- and what is as document 01 asks is not refused
-  pub of-accepted : Accepted table text → check table text ≡ none
+  pub zero-if-valid : Valid table text → check table text ≡ none
   unfolding check
-  of-accepted r =
+  zero-if-valid r =
       let w = length table in
       let some : not (eqb w 0) ≡ true = ap not (ne-eqb w 0 (λ z. omega (arith, r .some))) in
       let whole = true-and (not (eqb w 0)) (eqb (w % 4) 0) some (eq-eqb (w % 4) 0 (r .fours)) in
@@ -210,5 +210,5 @@ module _ (table text : List ℕ) where
       rw sizes (of-clean table text (w / 4) (λ n h. unfold faultAt in of-right text n _ _ _ _ (r .nodes n h)))
 
   -- both directions
-  pub accepted : (check table text .answer ≡ 0) ↔ Accepted table text
-  accepted = (accepted-of, λ r. ap (λ (f : Fault). f .answer) (of-accepted r))
+  pub accepted : (check table text .answer ≡ 0) ↔ Valid table text
+  accepted = (valid-if-zero, λ r. ap (λ (f : Fault). f .answer) (zero-if-valid r))

@@ -8,7 +8,7 @@ use native.Mathlib.Nat.{add-zero}
 use lib.ListN.{getD}
 use borrow.Author.Tests.{ne-eqb}
 use Rattle.table.specs.Node.{Node, nil, append, group, flatAlt, nest, hardline, text, annotated, union, align, fail, nodeOf, nodeAt}
-use Rattle.table.specs.Valid.{Sound}
+use Rattle.table.specs.Sound.{Sound}
 
 -- the node, once its kind is known
 pub node-is : (table : List ℕ) (n k : ℕ) → getD table (n * 4) 0 ≡ k → nodeAt table n ≡ nodeOf k (getD table (n * 4 + 1) 0) (getD table (n * 4 + 2) 0) (getD table (n * 4 + 3) 0)

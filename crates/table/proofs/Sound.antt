@@ -1,7 +1,7 @@
--- A node without a fault is sound: what the readers of a table lean on (specs/Valid.antt).
+-- A node without a fault is sound: what the readers of a table lean on (specs/Sound.antt).
 --     sound-of      one node
---     valid-of      the first N nodes
---     valid-check   the whole table, accepted by `check`
+--     all-sound-of      the first N nodes
+--     all-sound-of-check   the whole table, accepted by `check`
 -- Assumes nothing.
 use Prim.Native.Nat.{ℕ, zero, suc, _/_}
 use native.Mathlib.Omega.{arith}
@@ -11,9 +11,9 @@ use lib.ListN.{length}
 use Rattle.table.specs.Kinds.{kinds, kindAt}
 use Rattle.table.specs.Node.{nodeOf, nodeAt}
 use Rattle.table.specs.Fault.{faultAt, firstFault, check}
-use Rattle.table.specs.Accepted.{NodeRight, Accepted}
-use Rattle.table.specs.Valid.{Sound, Valid}
-use Rattle.table.proofs.Accept.{right-of, clean-of, accepted-of}
+use Rattle.table.specs.Valid.{NodeRight, Valid}
+use Rattle.table.specs.Sound.{Sound, AllSound}
+use Rattle.table.proofs.Accept.{right-of, clean-of, valid-if-zero}
 
 -- by its kind
 sound-words : (text : List ℕ) (n k a b c : ℕ) → NodeRight text n k a b c → Sound (length text) n (nodeOf k a b c)
@@ -36,12 +36,12 @@ module _ (table text : List ℕ) where
   unfolding faultAt nodeAt
   sound-of n e = sound-words text n _ _ _ _ (right-of text n _ _ _ _ e)
 
-  pub valid-of : (N : ℕ) → firstFault table text N .answer ≡ 0 → Valid table (length text) N
-  valid-of N e n h = sound-of n (clean-of table text N e n h)
+  pub all-sound-of : (N : ℕ) → firstFault table text N .answer ≡ 0 → AllSound table (length text) N
+  all-sound-of N e n h = sound-of n (clean-of table text N e n h)
 
-  pub valid-accepted : Accepted table text → Valid table (length text) (length table / 4)
+  pub all-sound-of-valid : Valid table text → AllSound table (length text) (length table / 4)
   unfolding nodeAt
-  valid-accepted r n h = sound-words text n _ _ _ _ (r .nodes n h)
+  all-sound-of-valid r n h = sound-words text n _ _ _ _ (r .nodes n h)
 
-  pub valid-check : check table text .answer ≡ 0 → Valid table (length text) (length table / 4)
-  valid-check e = valid-accepted (accepted-of table text e)
+  pub all-sound-of-check : check table text .answer ≡ 0 → AllSound table (length text) (length table / 4)
+  all-sound-of-check e = all-sound-of-valid (valid-if-zero table text e)

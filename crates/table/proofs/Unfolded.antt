@@ -16,7 +16,7 @@ use lib.ListN.{length, getD, take, drop, length-append, List·getD-append}
 use lib.Seq.{getD-at, getD-take, take-take, take-append-le, take-nil}
 use Rattle.table.specs.Node.{Node, nodeOf, nodeAt, word}
 use Rattle.table.specs.Unfold.{Tree, nil, append, group, flatAlt, nest, text, annotated, union, align, treeOf, treeOver, trees, tree}
-use Rattle.table.specs.Valid.{Sound, Valid}
+use Rattle.table.specs.Sound.{Sound, AllSound}
 
 -- ---- a part of the text
 
@@ -85,7 +85,7 @@ module _ (table bytes : List ℕ) where
 -- ---- two tables and two texts
 
 module _ (table table′ bytes bytes′ : List ℕ) (len : ℕ) (same-text : take len bytes ≡ take len bytes′) where
-  pub tree-alike : (N : ℕ) → ((i : ℕ) → i < N → nodeAt table i ≡ nodeAt table′ i) → Valid table len N → (n : ℕ) → n < N → tree table bytes n ≡ tree table′ bytes′ n
+  pub tree-alike : (N : ℕ) → ((i : ℕ) → i < N → nodeAt table i ≡ nodeAt table′ i) → AllSound table len N → (n : ℕ) → n < N → tree table bytes n ≡ tree table′ bytes′ n
   tree-alike zero e v n h = absurd (not-suc-le-zero h)
   tree-alike (suc N) e v n h =
       let below = tree-alike N (λ i l. e i (omega arith)) (λ i l. v i (omega arith)) in
@@ -96,14 +96,14 @@ module _ (table table′ bytes bytes′ : List ℕ) (len : ℕ) (same-text : tak
       ∙ sym (tree-node table′ bytes′ n len sound′)
 
   -- the first m words agree, and node n ends there
-  pub tree-prefix : (n m : ℕ) → n * 4 + 4 ≤ m → take m table ≡ take m table′ → Valid table len (suc n) → tree table bytes n ≡ tree table′ bytes′ n
+  pub tree-prefix : (n m : ℕ) → n * 4 + 4 ≤ m → take m table ≡ take m table′ → AllSound table len (suc n) → tree table bytes n ≡ tree table′ bytes′ n
   tree-prefix n m h e v = tree-alike (suc n) (λ i l. node-same m i table table′ (omega arith) e) v n (omega arith)
 
 module _ (table bytes : List ℕ) (n : ℕ) where
-  pub tree-append : (words more : List ℕ) → n * 4 + 4 ≤ length table → Valid table (length bytes) (suc n) → tree table bytes n ≡ tree (table ++ words) (bytes ++ more) n
+  pub tree-append : (words more : List ℕ) → n * 4 + 4 ≤ length table → AllSound table (length bytes) (suc n) → tree table bytes n ≡ tree (table ++ words) (bytes ++ more) n
   tree-append words more h v =
       tree-prefix table (table ++ words) bytes (bytes ++ more) (length bytes) (sym (take-append-le (length bytes) bytes more (omega arith))) n (length table) h
       (sym (take-append-le (length table) table words (omega arith))) v
 
-  pub tree-lent : (len : ℕ) → Valid table len (suc n) → tree table bytes n ≡ tree (take (n * 4 + 4) table) bytes n
+  pub tree-lent : (len : ℕ) → AllSound table len (suc n) → tree table bytes n ≡ tree (take (n * 4 + 4) table) bytes n
   tree-lent len v = tree-prefix table (take (n * 4 + 4) table) bytes bytes len refl n (n * 4 + 4) (omega arith) (sym (take-take (n * 4 + 4) (n * 4 + 4) table (omega arith))) v

@@ -5,5 +5,5 @@ pub mod Fault
 pub mod Parts
 pub mod Unfold
 pub mod Document
+pub mod Sound
 pub mod Valid
-pub mod Accepted

@@ -1,22 +1,41 @@
--- What the readers of a valid table lean on: children below their parents, Nest amounts, and Text ranges and columns in bounds.
-use Prim.Native.Nat.{ℕ, _+_, _≤_, _<_}
+-- Which tables are accepted, said as document 01 says it: what holds of a table, its text and each of its nodes.
+-- proofs/Accept.antt: `check` of Fault.antt answers 0 for these and for no others.
+use Prim.Native.Nat.{ℕ, _+_, _/_, _%_, _≤_, _<_}
+use mathlib.Core.Path.{_≡_}
+use mathlib.Core.Bool.{true}
 use mathlib.Core.List.{List}
-use Rattle.table.specs.Node.{Node, nil, append, group, flatAlt, nest, hardline, text, annotated, union, align, fail, nodeAt}
+use lib.ListN.{length, take, drop}
+use Rattle.table.specs.Kinds.{kindAt}
+use Rattle.table.specs.Node.{word}
+use Rattle.buffer.specs.Utf8.{wellFormed, ascii}
 
--- node n, over a text of so many bytes
-abbrev pub Sound : ℕ → ℕ → Node → Type 0
-Sound len n nil = Unit {0}
-Sound len n (append a b) = (a < n) × (b < n)
-Sound len n (group a) = a < n
-Sound len n (flatAlt a b) = (a < n) × (b < n)
-Sound len n (nest a k way) = (a < n) × (k ≤ 1000)
-Sound len n hardline = Unit {0}
-Sound len n (text o l c) = (o + l ≤ len) × (c ≤ l)
-Sound len n (annotated a l) = a < n
-Sound len n (union a b) = (a < n) × (b < n)
-Sound len n (align a) = a < n
-Sound len n fail = Unit {0}
+-- the words b and c of a Nest
+pub record NestRight (b c : ℕ) : Type 0 where
+  pub amount : b ≤ 1000
+  pub way : c ≤ 1
 
--- every one of the first N nodes is sound
-abbrev pub Valid : List ℕ → ℕ → ℕ → Type 0
-Valid table len N = (n : ℕ) → n < N → Sound len n (nodeAt table n)
+-- the words of a Text over the text bytes: offset a, length b, columns c
+pub record TextRight (bytes : List ℕ) (a b c : ℕ) : Type 0 where
+  pub inside : a + b ≤ length bytes
+  pub utf8 : wellFormed (take b (drop a bytes)) ≡ true
+  pub below128 : ascii (take b (drop a bytes)) ≡ true → c ≡ b
+  pub columns : c ≤ b
+
+-- node n with the words k a b c, over the text bytes
+pub record NodeRight (bytes : List ℕ) (n k a b c : ℕ) : Type 0 where
+  pub known : k < 11
+  pub unused-a : kindAt k .words < 1 → a ≡ 0
+  pub unused-b : kindAt k .words < 2 → b ≡ 0
+  pub unused-c : kindAt k .words < 3 → c ≡ 0
+  pub first-child : 0 < kindAt k .children → a < n
+  pub second-child : 1 < kindAt k .children → b < n
+  pub nest : k ≡ 4 → NestRight b c
+  pub text : k ≡ 6 → TextRight bytes a b c
+
+-- the whole: its sizes, and every node, unreachable ones too
+pub record Valid (table text : List ℕ) : Type 0 where
+  pub some : 0 < length table
+  pub fours : length table % 4 ≡ 0
+  pub words : length table ≤ 4096
+  pub bytes : length text ≤ 65536
+  pub nodes : (n : ℕ) → n < length table / 4 → NodeRight text n (word table n 0) (word table n 1) (word table n 2) (word table n 3)

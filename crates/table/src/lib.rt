@@ -120,11 +120,20 @@ pub struct Indent(pub u32);
 pub struct NodeNo(pub u32);
 
 impl Column {
-    // Align sets the indentation to the column: the one change of the one into the other.
+    // Align sets the indentation to the column.
     pub fn to_indent(self) -> Indent
         ensures { λ r. ⌜ r .0 ≡ self .0 ⌝ }
     {
         Indent(self.0)
+    }
+}
+
+impl Indent {
+    // The indentation that a Hardline writes blanks to becomes the column.
+    pub fn to_column(self) -> Column
+        ensures { λ r. ⌜ r .0 ≡ self .0 ⌝ }
+    {
+        Column(self.0)
     }
 }
 

@@ -20,13 +20,13 @@ use Rattle.build.specs.Outcome.{Outcome, outcome}
 use Rattle.build.specs.Constructors.{nilMade, hardlineMade, lineMade, groupMade, textMade, appendMade, nestMade, annotateMade, unionMade, concatMade}
 use Rattle.build.specs.Documents.{lineDoc, groupDoc, textDoc, appendDoc, nestDoc, concatDoc}
 use Rattle.pallets.specs.Lines.{characters}
-use Rattle.build.specs.Promise.{Valid, Builds, Promise}
+use Rattle.build.specs.Promise.{ValidSoFar, Builds, Promise}
 use Rattle.build.proofs.Promises.{nil-promise, hardline-promise, line-promise, group-promise, text-promise, append-promise, nest-promise, annotate-promise, union-promise, concat-promise}
 use Rattle.words.specs.declared.Shared.{Shared}
 use Rattle.words.specs.Documents.{leafDoc}
 use Rattle.words.specs.Build.{Is, Shares, Gives}
 
-pub empty-valid : (table text : List ℕ) → Valid (record { nodes = 0; bytes = 0 }) table text
+pub empty-valid : (table text : List ℕ) → ValidSoFar (record { nodes = 0; bytes = 0 }) table text
 unfolding firstFault
 empty-valid table text = refl
 

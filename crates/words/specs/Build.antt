@@ -8,7 +8,7 @@ use Rattle.build.specs.declared.Counts.{Counts}
 use Rattle.build.specs.declared.Made.{Made}
 use Rattle.build.specs.Outcome.{outcome}
 use Rattle.build.specs.Documents.{lineDoc, softlineDoc}
-use Rattle.build.specs.Promise.{Valid, docAt, Promise}
+use Rattle.build.specs.Promise.{ValidSoFar, docAt, Promise}
 use Rattle.words.specs.declared.Shared.{Shared}
 use Rattle.words.specs.declared.start.Start.{Start}
 use Rattle.words.specs.declared.start.Start.the-variants as start
@@ -31,5 +31,5 @@ Gives c table text r table′ text′ d = Promise c table text (outcome r table�
 
 -- the shared nodes, over a valid table
 abbrev pub Started : Start → List ℕ → List ℕ → Type 0
-Started (start.Ready c shared) table text = Valid c table text × Shares c table text shared
+Started (start.Ready c shared) table text = ValidSoFar c table text × Shares c table text shared
 Started start.Full table text = Unit {0}

@@ -1,7 +1,7 @@
 // The nodes that all share, over an empty table and text.
 ghost use Rattle.table.specs.Document as document;
 ghost use Rattle.table.specs.Document.{nil};
-ghost use Rattle.build.specs.Promise.{Valid};
+ghost use Rattle.build.specs.Promise.{ValidSoFar};
 ghost use Rattle.words.specs.Build.{Is, Started};
 use crate::Shared;
 use build::Counts;
@@ -16,7 +16,7 @@ pub enum Start {
 
 // The places to break that are shared beside these two nodes.
 fn breaks(c: Counts, table: &mut [u32], text: &mut [u8], none: NodeNo, hardline: NodeNo) -> Start
-    ensures { λ r. ⌜ (Valid c (now (table .entry)) (now (text .entry)) → Is c (now (table .entry)) (now (text .entry)) none nil → Is c (now (table .entry)) (now (text .entry)) hardline document.hardline → Started r (now (table .exit)) (now (text .exit))) ⌝ }
+    ensures { λ r. ⌜ (ValidSoFar c (now (table .entry)) (now (text .entry)) → Is c (now (table .entry)) (now (text .entry)) none nil → Is c (now (table .entry)) (now (text .entry)) hardline document.hardline → Started r (now (table .exit)) (now (text .exit))) ⌝ }
 {
     let Made::Node(c, line) = c.line(table, text) else {
         return Start::Full;

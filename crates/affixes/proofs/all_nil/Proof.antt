@@ -4,7 +4,7 @@ use mathlib.Core.Path.{_≡_, refl, sym, _∙_}
 use native.Mathlib.Omega.{arith}
 use Prim.Native.Nat.{_-_, _≤_}
 use lib.ListN.{length, drop}
-use Rattle.build.specs.Sheet.{counted}
+use Rattle.build.specs.Draft.{counted}
 use Rattle.affixes.specs.Affixes.{allNil}
 use Rattle.affixes.proofs.Layers.{nil-next, nil-not, nil-end}
 use Rattle.affixes.proofs.all_nil.Statement.{statement}

@@ -2,7 +2,7 @@
 use borrow.Author.Needs.{needs}
 use lib.ListN.{length}
 use lib.Dec.{ltb}
-use Rattle.build.specs.Sheet.{counted}
+use Rattle.build.specs.Draft.{counted}
 use Rattle.affixes.specs.Affixes.{list, guarded, head}
 use Rattle.affixes.proofs.Layers.{stays-there, list-adds, guarded-adds}
 use Rattle.affixes.proofs.Chain.{ready, start-node, start-list, counted-node, at, first-stops, second-stops, group-last, shares-later}
@@ -44,7 +44,7 @@ returns c =
     (start .pre .0)
     the-list-adds
     (λ s. guarded s shared-2 (the-list .node) the-ltb)
-    (guarded-adds (the-list .sheet) shared-2 (the-list .node) the-ltb (stays-there the-list-adds (start-node (start .pre .0) (start .pre .1 .guard))) (the-list-adds .present))
+    (guarded-adds (the-list .draft) shared-2 (the-list .node) the-ltb (stays-there the-list-adds (start-node (start .pre .0) (start .pre .1 .guard))) (the-list-adds .present))
     (at4 .list .ensures)
     (c .enum-told .given .1)
 
@@ -91,7 +91,7 @@ returns-2 c =
     (start .pre .0)
     the-list-adds
     (λ s. guarded s shared-2 (the-list .node) the-ltb)
-    (guarded-adds (the-list .sheet) shared-2 (the-list .node) the-ltb (stays-there the-list-adds (start-node (start .pre .0) (start .pre .1 .guard))) (the-list-adds .present))
+    (guarded-adds (the-list .draft) shared-2 (the-list .node) the-ltb (stays-there the-list-adds (start-node (start .pre .0) (start .pre .1 .guard))) (the-list-adds .present))
     list-ensures
     first-given-1
     (rw ((at (start .pre .0) the-list-adds list-ensures first-given-1) .1) at (at4 .guarded .ensures))
@@ -130,7 +130,7 @@ returns-3 c =
     (start .pre .0)
     the-list-adds
     (λ s. guarded s shared-2 (the-list .node) the-ltb)
-    (guarded-adds (the-list .sheet) shared-2 (the-list .node) the-ltb (stays-there the-list-adds (start-node (start .pre .0) (start .pre .1 .guard))) (the-list-adds .present))
+    (guarded-adds (the-list .draft) shared-2 (the-list .node) the-ltb (stays-there the-list-adds (start-node (start .pre .0) (start .pre .1 .guard))) (the-list-adds .present))
     list-ensures
     first-given-1
     (rw ((at (start .pre .0) the-list-adds list-ensures first-given-1) .1) at (at9 .guarded .ensures))

@@ -1,7 +1,7 @@
 -- `list`: none, or joined as `concat` does.
 use borrow.Author.Needs.{needs}
 use mathlib.Core.Path.{refl}
-use Rattle.build.specs.Sheet.{counted}
+use Rattle.build.specs.Draft.{counted}
 use Rattle.build.specs.Parts.{concat}
 use Rattle.build.proofs.Only.{concat-adds}
 use Rattle.affixes.proofs.Chain.{ran-made, ran-older, start-list}

@@ -1,6 +1,6 @@
 -- `tail`, part by part.
 use borrow.Author.Needs.{needs}
-use Rattle.build.specs.Sheet.{counted}
+use Rattle.build.specs.Draft.{counted}
 use Rattle.build.specs.Parts.{append}
 use Rattle.build.proofs.Only.{append-adds}
 use Rattle.affixes.specs.Affixes.{list, tail}
@@ -42,7 +42,7 @@ returns c =
     (start .pre .0)
     the-list-adds
     (λ s. append s (start .args .n .0) (the-list .node))
-    (append-adds (the-list .sheet) (start .args .n .0) (the-list .node) (stays-there the-list-adds (start-node (start .pre .0) (start .pre .2))) (the-list-adds .present))
+    (append-adds (the-list .draft) (start .args .n .0) (the-list .node) (stays-there the-list-adds (start-node (start .pre .0) (start .pre .2))) (the-list-adds .present))
     (at4 .list .ensures)
     (c .enum-told .given .1)
 
@@ -85,7 +85,7 @@ returns-2 c =
     (start .pre .0)
     the-list-adds
     (λ s. append s (start .args .n .0) (the-list .node))
-    (append-adds (the-list .sheet) (start .args .n .0) (the-list .node) the-stays-there present-2)
+    (append-adds (the-list .draft) (start .args .n .0) (the-list .node) the-stays-there present-2)
     list-ensures
     first-given-1
     (ran-append (ready (the-at .0)) (start .args .n .0) (the-list .node) (counted-node (the-at .0) the-stays-there) (counted-node (the-at .0) present-2) (rw (the-at .1) at (at4 .append .ensures)))
@@ -126,7 +126,7 @@ returns-3 c =
     (start .pre .0)
     the-list-adds
     (λ s. append s (start .args .n .0) (the-list .node))
-    (append-adds (the-list .sheet) (start .args .n .0) (the-list .node) the-stays-there present-2)
+    (append-adds (the-list .draft) (start .args .n .0) (the-list .node) the-stays-there present-2)
     list-ensures
     first-given-1
     (ran-append (ready (the-at .0)) (start .args .n .0) (the-list .node) (counted-node (the-at .0) the-stays-there) (counted-node (the-at .0) present-2) (rw (the-at .1) at (at9 .append .ensures)))

@@ -4,7 +4,7 @@ use mathlib.Core.Path.{refl, _∙_}
 use native.Mathlib.Omega.{arith}
 use Prim.Native.Nat.{_-_, _≤_}
 use lib.ListN.{length}
-use Rattle.build.specs.Sheet.{counted}
+use Rattle.build.specs.Draft.{counted}
 use Rattle.build.proofs.Stand.{same-words}
 use Rattle.block.specs.Block.{unions}
 use Rattle.block.proofs.Loops.{Left, left-turn, left-zero, alternative-turn, left-start, left-asks, left-stop₁, left-stop₂, left-next, left-end}

@@ -4,7 +4,7 @@ use native.Mathlib.Omega.{arith}
 use Prim.Native.Nat.{_+_, _-_, _≤_}
 use mathlib.Core.Path.{_≡_, ap, _∙_}
 use lib.ListN.{length, drop}
-use Rattle.build.specs.Promise.{Valid}
+use Rattle.build.specs.Promise.{ValidSoFar}
 use Rattle.pallets.specs.Lines.{lines}
 use Rattle.pallets.proofs.Saying.{part-within}
 use Rattle.words.specs.Build.{Shares}
@@ -14,7 +14,7 @@ use Rattle.rows.proofs.add_lines.Tie as tie
 
 abbrev Inv-loop : tie.InvT-loop
 Inv-loop table₀ text₀ shared input c₀ n₀ line₀ at₀ table text c n line at =
-    (length table ≡ length table₀) × (length text ≡ length text₀) × (line ≤ at) × (line + length (lines (drop at input)) ≡ length (lines input)) × (Valid c₀ table₀ text₀ → Shares c₀ table₀ text₀ shared → Lined shared input at c table text n)
+    (length table ≡ length table₀) × (length text ≡ length text₀) × (line ≤ at) × (line + length (lines (drop at input)) ≡ length (lines input)) × (ValidSoFar c₀ table₀ text₀ → Shares c₀ table₀ text₀ shared → Lined shared input at c table text n)
 
 abbrev μ-loop : tie.MeasureT-loop
 μ-loop table₀ text₀ shared input c₀ n₀ line₀ at₀ table text c n line at = length input - at

@@ -1,6 +1,6 @@
 -- `nested`: by the amount, or as it is.
 use borrow.Author.Needs.{needs}
-use Rattle.build.specs.Sheet.{counted}
+use Rattle.build.specs.Draft.{counted}
 use Rattle.build.specs.Parts.{nest}
 use borrow.Author.Tests.{lt-ltb}
 use Rattle.build.proofs.Only.{nest-adds}

@@ -1,6 +1,6 @@
 -- `wrap`, part by part.
 use borrow.Author.Needs.{needs}
-use Rattle.build.specs.Sheet.{counted}
+use Rattle.build.specs.Draft.{counted}
 use Rattle.build.specs.Parts.{append}
 use Rattle.build.proofs.Only.{append-adds}
 use Rattle.block.specs.Block.{nested, wrap}
@@ -39,7 +39,7 @@ returns c =
     (start .pre .0)
     the-append-adds
     (λ s. nested s (start .args .block) (the-append .node) (start .args .flag))
-    (nested-adds (the-append .sheet) (start .args .block) (the-append .node) (start .args .flag) (the-append-adds .present))
+    (nested-adds (the-append .draft) (start .args .block) (the-append .node) (start .args .flag) (the-append-adds .present))
     (ran-append (start .pre .0) prefix-0 (start .args .n .0) (start .pre .3) (start .pre .2) (at4 .append .ensures))
     (c .enum-told .given .1)
 
@@ -82,7 +82,7 @@ returns-2 c =
     (start .pre .0)
     the-append-adds
     (λ s. nested s (start .args .block) (the-append .node) (start .args .flag))
-    (nested-adds (the-append .sheet) (start .args .block) (the-append .node) (start .args .flag) (the-append-adds .present))
+    (nested-adds (the-append .draft) (start .args .block) (the-append .node) (start .args .flag) (the-append-adds .present))
     the-ran-append
     first-given-1
     (rw ((at (start .pre .0) the-append-adds the-ran-append first-given-1) .1) at (at4 .nested .ensures))
@@ -118,7 +118,7 @@ returns-3 c =
     (start .pre .0)
     the-append-adds
     (λ s. nested s (start .args .block) (the-append .node) (start .args .flag))
-    (nested-adds (the-append .sheet) (start .args .block) (the-append .node) (start .args .flag) (the-append-adds .present))
+    (nested-adds (the-append .draft) (start .args .block) (the-append .node) (start .args .flag) (the-append-adds .present))
     the-ran-append
     first-given-1
     (rw ((at (start .pre .0) the-append-adds the-ran-append first-given-1) .1) at (at9 .nested .ensures))

@@ -2,7 +2,7 @@
 use borrow.Author.Needs.{needs}
 use mathlib.Core.Path.{sym, _∙_}
 use mathlib.Core.Bool.{true}
-use Rattle.build.specs.Sheet.{counted, older, add}
+use Rattle.build.specs.Draft.{counted, older, add}
 use Rattle.build.specs.Parts.{group}
 use Rattle.build.proofs.Stand.{made-same}
 use Rattle.build.proofs.Leaf.{given-back, node-alone}

@@ -1,6 +1,6 @@
 -- `hang`, part by part.
 use borrow.Author.Needs.{needs}
-use Rattle.build.specs.Sheet.{counted}
+use Rattle.build.specs.Draft.{counted}
 use Rattle.build.proofs.Hangs.{hang-refused, hang-made}
 use Rattle.build.proofs.Counts.hang.Statement.{statement}
 use Rattle.build.proofs.Counts.hang.Tie as tie

@@ -1,6 +1,6 @@
 -- `nest`: with no node behind it.
 use borrow.Author.Needs.{needs}
-use Rattle.build.specs.Sheet.{counted}
+use Rattle.build.specs.Draft.{counted}
 use Rattle.build.proofs.Hangs.{nest-alone}
 use Rattle.build.proofs.Counts.nest.Statement.{statement}
 use Rattle.build.proofs.Counts.nest.Tie as tie

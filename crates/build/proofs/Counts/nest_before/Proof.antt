@@ -1,7 +1,7 @@
 -- `nest_before`: given back or wrapped.
 use borrow.Author.Needs.{needs}
 use mathlib.Core.Path.{sym, _∙_}
-use Rattle.build.specs.Sheet.{counted}
+use Rattle.build.specs.Draft.{counted}
 use Rattle.build.proofs.Leaf.{older-settled}
 use Rattle.build.proofs.Hangs.{nest-kept, nest-wrapped}
 use Rattle.build.proofs.Counts.nest_before.Statement.{statement}

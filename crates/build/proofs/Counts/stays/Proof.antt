@@ -9,7 +9,7 @@ use lib.Seq.{take-take}
 use Rattle.table.specs.Node.{word}
 use Rattle.buffer.specs.Utf8.{ascii}
 use Rattle.table.proofs.Unfolded.{part-same}
-use Rattle.build.specs.Sheet.{counted}
+use Rattle.build.specs.Draft.{counted}
 use Rattle.build.specs.Parts.{stays}
 use Rattle.build.proofs.Counts.stays.Statement.{statement}
 use Rattle.build.proofs.Counts.stays.Tie as tie
