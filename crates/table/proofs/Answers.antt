@@ -11,22 +11,31 @@ use borrow.Author.Tests.{lt-ltb, le-ltb, le-leb, lt-leb, ne-eqb}
 use Rattle.choice.specs.Pick.{pick}
 use Rattle.table.specs.Kinds.{kindAt}
 use Rattle.table.specs.declared.KindInfo.{KindInfo}
-use Rattle.buffer.specs.Utf8.{wellFormed, ascii}
+use Rattle.buffer.specs.Utf8.{wellFormed, ascii, noFeed, plain}
 use Rattle.table.specs.Parts.{textFault}
 use Rattle.table.specs.Fault.{Fault, fault, unusedZero, childrenBelow, nestInRange, columnsRight, faultOf, faultAt}
+use Rattle.choice.proofs.Tests.{and-end, and-true}
+use Rattle.buffer.proofs.Octets.{plain-both}
 use Rattle.table.proofs.Accept.{part-length}
 use Rattle.table.proofs.KindRule.{append-entry, group-entry, text-entry}
 
 -- ---- columns
 
 module _ (bytes : List ℕ) (c : ℕ) where
-  pub columns-plain : ascii bytes ≡ true → eqb c (length bytes) ≡ columnsRight bytes c
+  pub columns-plain : plain bytes ≡ true → eqb c (length bytes) ≡ columnsRight bytes c
   unfolding columnsRight
-  columns-plain e = rw e
+  columns-plain e = let p = and-true (ascii bytes) (noFeed bytes) (sym (plain-both bytes) ∙ e) in rw (p .0, p .1)
 
-  pub columns-wide : ascii bytes ≡ false → wellFormed bytes && leb c (length bytes) ≡ columnsRight bytes c
+  pub columns-fed : noFeed bytes ≡ false → false ≡ columnsRight bytes c
   unfolding columnsRight
-  columns-wide e = rw e
+  columns-fed e = rw e
+
+  -- not plain, and no line feed: not all below 128
+  pub columns-wide : plain bytes ≡ false → noFeed bytes ≡ true → wellFormed bytes && leb c (length bytes) ≡ columnsRight bytes c
+  unfolding columnsRight
+  columns-wide e f =
+      let high : ascii bytes ≡ false = sym (and-end (ascii bytes)) ∙ ap (λ (q : Bool). ascii bytes && q) (sym f) ∙ sym (plain-both bytes) ∙ e in
+      rw (f, high)
 
 -- ---- a Text
 
@@ -37,8 +46,8 @@ module _ (text : List ℕ) (a b c : ℕ) where
   pub text-inside : (p : Bool) → a + b ≤ length text → columnsRight (take b (drop a text)) c ≡ p → pick p 0 5 ≡ textFault text a b c
   text-inside p h e = rw (le-leb (a + b) (length text) h, e)
 
-  -- all of the text below 128: columns equal length
-  pub text-plain : a + b ≤ length text → ascii (take b (drop a text)) ≡ true → columnsRight (take b (drop a text)) c ≡ eqb c b
+  -- all of the text plain: columns equal length
+  pub text-plain : a + b ≤ length text → plain (take b (drop a text)) ≡ true → columnsRight (take b (drop a text)) c ≡ eqb c b
   text-plain h e = sym (columns-plain (take b (drop a text)) c e) ∙ ap (eqb c) (part-length text a b h)
 
 -- ---- a node
