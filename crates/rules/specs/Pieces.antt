@@ -1,11 +1,14 @@
 -- What is laid, as pieces: the Texts and Hardlines that stand, in order. The output of a layout is its pieces, one after the other, and every
--- line feed in it is a Hardline's (proofs/Feeds). Which way through a document is taken is for the layout rules to say; here is what
+-- line feed in it is a Hardline's: `Fed`, proved of every call with answer 0 (proofs/Feeds). Which way through a document is taken is for the layout rules to say; here is what
 -- stands on any of its ways. Assumes nothing.
 use Prim.Native.Nat.{ℕ, _+_}
+use mathlib.Core.Path.{_≡_}
+use mathlib.Core.Bool.{true}
 use mathlib.Core.List.{List, [], _∷_, _++_}
 use lib.ListN.{replicate}
 use lib.Dec.{eqb}
 use Rattle.choice.specs.Pick.{pick}
+use Rattle.buffer.specs.Utf8.{noFeed}
 use Rattle.table.specs.Node.{Way}
 use Rattle.table.specs.Unfold as tree
 use Rattle.table.specs.Unfold.{Tree}
@@ -49,3 +52,18 @@ unfoldable pub hardlines : List Piece → ℕ
 hardlines [] = 0
 hardlines (textPiece bs ∷ qs) = hardlines qs
 hardlines (hardlinePiece blanks ∷ qs) = 1 + hardlines qs
+
+-- the pieces of Texts have no line feed
+abbrev pub Unfed : List Piece → Type 0
+Unfed [] = Unit {0}
+Unfed (textPiece bs ∷ qs) = (noFeed bs ≡ true) × Unfed qs
+Unfed (hardlinePiece blanks ∷ qs) = Unfed qs
+
+-- Every line feed in the output of a document is a Hardline's: the output is pieces that stand, one after the other, those of Texts have none, and
+-- so there are as many line feeds as Hardlines that stand.
+pub record Fed (t : Tree) (out : List ℕ) : Type 0 where
+  pub pieces : List Piece
+  pub stand : Stand t pieces
+  pub output : out ≡ allBytes pieces
+  pub texts : Unfed pieces
+  pub counted : feeds out ≡ hardlines pieces
