@@ -8,7 +8,7 @@ use mathlib.Core.Path.{_≡_, refl, sym, ap, ap₂, _∙_, subst}
 use mathlib.Core.Bool.{Bool, true, false, not}
 use mathlib.Core.List.{List, [], _∷_, _++_, append-assoc, append-nil}
 use lib.Dec.{leb, ltb, eqb}
-use lib.ListN.{length, replicate, take, drop}
+use lib.ListN.{length, replicate}
 use borrow.Author.Tests.{not-true, eqb-true, eqb-false}
 use native.Mathlib.Nat.{zero-add, add-assoc, not-suc-le-zero}
 use Rattle.choice.specs.Pick.{pick}
