@@ -1,7 +1,7 @@
 //! Runs tests/cases.txt through the exports, and what of it can be asked for there through the layout functions, drafts and strips. Every
 //! element of every buffer is looked at afterwards.
 
-use pursegable::sizes::{EVENT_WORDS, REPORT_WORDS, WORK_WORDS};
+use pursegable::sizes::{DEFAULT_STEPS, EVENT_WORDS, LABEL_WIDTH, REPORT_WORDS, SHEET_WIDTH, WORK_WORDS};
 use pursegable::{Draft, Event, Laid, Node, Refusal, Refused, Strip, label, layout, raw, sheet};
 
 const CASES: &str = include_str!("../../tests/cases.txt");
@@ -148,18 +148,20 @@ impl<'a> Case<'a> {
         events.copy_from_slice(&padded(&self.records(), self.slots, Event::default()));
         self.same_buffers("raw::layout_words", &lent);
         self.same_report("raw::layout_words", answer, &lent.report);
-        if !self.by_default() {
-            return 2;
+        let mut count = 2;
+        for (name, width, call) in
+            [("raw::sheet", SHEET_WIDTH, raw::sheet as ByDefault), ("raw::label", LABEL_WIDTH, raw::label)]
+        {
+            if self.at(width) {
+                let mut lent = self.lend();
+                let Lent { out, events, work, report } = &mut lent;
+                let answer = call(table, text, out, events, work, report);
+                self.same_buffers(name, &lent);
+                self.same_report(name, answer, &lent.report);
+                count += 1;
+            }
         }
-
-        for (name, call) in [("raw::sheet", raw::sheet as ByDefault), ("raw::label", raw::label)] {
-            let mut lent = self.lend();
-            let Lent { out, events, work, report } = &mut lent;
-            let answer = call(table, text, out, events, work, report);
-            self.same_buffers(name, &lent);
-            self.same_report(name, answer, &lent.report);
-        }
-        4
+        count
     }
 
     /// By the safe functions, which always have room for the report; how many calls.
@@ -171,23 +173,27 @@ impl<'a> Case<'a> {
         let Lent { out, events, work, .. } = &mut lent;
         self.same_result("layout", layout(&self.table, &self.text, self.width, self.limit, out, events, work));
         self.same_buffers("layout", &lent);
-        if !self.by_default() {
-            return 1;
+        let mut count = 1;
+        if self.at(SHEET_WIDTH) {
+            let mut lent = self.lend();
+            let Lent { out, events, work, .. } = &mut lent;
+            self.same_result("sheet", sheet(&self.table, &self.text, out, events, work));
+            self.same_buffers("sheet", &lent);
+            count += 1;
         }
-
-        let mut lent = self.lend();
-        let Lent { out, events, work, .. } = &mut lent;
-        self.same_result("sheet", sheet(&self.table, &self.text, out, events, work));
-        self.same_buffers("sheet", &lent);
-        let mut lent = self.lend();
-        let Lent { out, events, work, .. } = &mut lent;
-        self.same_result("label", label(&self.table, &self.text, out, events, work));
-        self.same_buffers("label", &lent);
-        3
+        if self.at(LABEL_WIDTH) {
+            let mut lent = self.lend();
+            let Lent { out, events, work, .. } = &mut lent;
+            self.same_result("label", label(&self.table, &self.text, out, events, work));
+            self.same_buffers("label", &lent);
+            count += 1;
+        }
+        count
     }
 
-    fn by_default(&self) -> bool {
-        (self.width, self.limit) == (42, 1_000_000)
+    /// Whether this is what the functions ask that take no width, this one being theirs.
+    fn at(&self, width: u32) -> bool {
+        (self.width, self.limit) == (width, DEFAULT_STEPS)
     }
 }
 
