@@ -27,8 +27,8 @@ impl Parts<'_> {
 /// A document being built: a table of nodes and the text bytes, owned or borrowed.
 ///
 /// There is a method for each constructor. Each gives the node that it made, which may be an older one, or a refusal, and then it has
-/// added nothing. They take `&self`, so that calls nest, and operands by [`Operand`](crate::Operand), so that a chain has one `?`. Nodes may be used
-/// any number of times. A draft can be handed to another thread, but not be used by two at once.
+/// added nothing. They take `&self`, so that calls nest, and operands by [`Operand`](crate::Operand), so that a chain has one `?`.
+/// Nodes may be used any number of times. A draft can be handed to another thread, but not be used by two at once.
 ///
 /// ```
 /// use pursegable::Draft;

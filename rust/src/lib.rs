@@ -30,6 +30,7 @@
 //! The page `docs/FROM-PRETTY.md` of the repository says what each function of crate pretty is here.
 
 #![no_std]
+#![warn(missing_docs)]
 #![deny(unsafe_code)]
 
 #[cfg(feature = "alloc")]
@@ -53,3 +54,8 @@ pub use draft::Draft;
 pub use event::{Event, Events, Mark, Piece, Pieces};
 pub use layout::{Strip, label, layout, sheet};
 pub use node::{Node, Operand};
+
+/// The Rust of the page for those who come from crate pretty, run as tests.
+#[cfg(doctest)]
+#[doc = include_str!("../../docs/FROM-PRETTY.md")]
+struct FromPretty;

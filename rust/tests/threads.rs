@@ -36,6 +36,16 @@ fn different_buffers_at_once() -> Result<(), Refused> {
     Ok(())
 }
 
+/// A draft and a strip go from one thread to another.
+#[test]
+fn handed_on() -> Result<(), Refused> {
+    let (draft, mut strip) = (Draft::new(), Strip::new());
+    let row = notes(&draft, 3)?;
+    let want = draft.lay(row, 42)?;
+    thread::spawn(move || assert_eq!(strip.layout(&draft, row, 42, 1_000_000).unwrap().text(), want)).join().unwrap();
+    Ok(())
+}
+
 #[test]
 fn one_table_read_by_all() -> Result<(), Refused> {
     let mut draft = Draft::new();
