@@ -32,6 +32,7 @@ const ROOM: usize = MOST_AFFIXES + 1;
 #[must_use = "a block is built by `format`"]
 pub struct Block<'d, 'a> {
     draft: &'d Draft<'a>,
+    /// the body, or the first refusal of an operand
     body: Result<Node, Refusal>,
     prefixes: [u32; ROOM],
     suffixes: [u32; ROOM],
@@ -70,17 +71,19 @@ impl<'d, 'a> Block<'d, 'a> {
     }
 
     fn with(mut self, prefix: impl Operand, suffix: impl Operand, nested: bool) -> Self {
-        let Ok(body) = self.body else { return self };
-        let at = self.affixes.min(MOST_AFFIXES);
-        let draft = self.draft;
-        self.body = prefix.node(draft).and_then(|prefix| {
-            self.prefixes[at] = prefix.number();
-            self.suffixes[at] = suffix.node(draft)?.number();
-            Ok(body)
-        });
+        if let Ok(body) = self.body {
+            self.body = self.put(prefix, suffix, nested).map(|()| body);
+        }
+        self
+    }
+
+    fn put(&mut self, prefix: impl Operand, suffix: impl Operand, nested: bool) -> Result<(), Refusal> {
+        let at = self.affixes.min(MOST_AFFIXES); // past the ninth, the ninth again
+        self.prefixes[at] = prefix.node(self.draft)?.number();
+        self.suffixes[at] = suffix.node(self.draft)?.number();
         self.nests[at] = u8::from(nested);
         self.affixes = at + 1;
-        self
+        Ok(())
     }
 
     /// Builds the block, nested by the amount: added if it is positive, subtracted if it is negative.
