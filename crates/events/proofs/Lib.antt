@@ -3,4 +3,4 @@ pub mod Filled
 pub mod Local
 pub mod Published
 pub mod Staging
-pub mod Unique
+pub mod Demands

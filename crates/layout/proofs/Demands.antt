@@ -22,7 +22,7 @@ use Rattle.rules.specs.Layout as rules
 use Rattle.rules.specs.Call.{Given, buffersRight, limits, refusal, call, eventWords, wordsOf}
 use Rattle.rules.proofs.Answers.{answered}
 use Rattle.rules.proofs.Cleared.{length-words}
-use Rattle.layout.specs.Called.{given, words, Called, reported, defaultWidth, labelWidth, defaultSteps}
+use Rattle.layout.specs.Called.{given, asWords, Called, reported, defaultWidth, labelWidth, defaultSteps}
 use Rattle.layout.specs.Demands.{Demand1, Sizes, ByOneLaw, Unrefused, Demand3}
 use Rattle.layout.specs.declared.Report.{Report}
 use Rattle.layout.proofs.Words.{words-front, words-injective}
@@ -30,7 +30,7 @@ use Rattle.layout.proofs.Whole.{call-sizes, call-fault, call-run, buffe
 use Rattle.layout.proofs.Returned as returned
 
 -- words are a form of events
-words-lawful : returned.Lawful words
+words-lawful : returned.Lawful asWords
 unfolding wordsOf
 words-lawful = record { none = refl; extent = length-words }
 
@@ -59,14 +59,14 @@ module _ (table text : List ℕ) (width limit room size work : ℕ) (r : Report)
   abbrev Sized : Type 0
   Sized = Sizes width limit room size work
 
-  pub demand-1 : Demand1 words limit room size work r out noted area
-  demand-1 = returned.demand-1 words words-lawful c (limits g) (answered g) refl (omega (arith, answered g .events-fit))
+  pub demand-1 : Demand1 asWords limit room size work r out noted area
+  demand-1 = returned.demand-1 asWords words-lawful c (limits g) (answered g) refl (omega (arith, answered g .events-fit))
 
   pub demand-2 : reported r out noted ≡ call g
   demand-2 =
       let long : r .events * eventWords ≤ length noted = rw (demand-1 .records-length) (demand-1 .events) in
-      let same-words = words-front (r .events) noted long ∙ returned.records-used words words-lawful c in
-      ruled-is (reported r out noted) (call g) (c .answer) (c .place) (c .steps) (returned.bytes-used words words-lawful c) (words-injective _ _ same-words)
+      let same-words = words-front (r .events) noted long ∙ returned.records-used asWords words-lawful c in
+      ruled-is (reported r out noted) (call g) (c .answer) (c .place) (c .steps) (returned.bytes-used asWords words-lawful c) (words-injective _ _ same-words)
 
   -- ---- its parts
 
@@ -96,8 +96,8 @@ module _ (table text : List ℕ) (width limit room size work : ℕ) (r : Report)
 pub demand-3 : (g h : Given) {size size′ : ℕ} {r r′ : Report} {out out′ noted noted′ area area′ : List ℕ}
     → Called g size r out noted area → Called h size′ r′ out′ noted′ area′
     → ByOneLaw g h → Unrefused r → Unrefused r′
-    → Demand3 words r r′ out out′ noted noted′
-demand-3 g h c d = returned.demand-3 words words-lawful c d g h refl refl
+    → Demand3 asWords r r′ out out′ noted noted′
+demand-3 g h c d = returned.demand-3 asWords words-lawful c d g h refl refl
 
 -- ---- the two routines that take no width
 

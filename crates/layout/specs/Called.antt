@@ -58,12 +58,12 @@ pub record Returned {A : Type 0} (form : Form A) (c : rules.Report) (room size w
 
 -- ---- over words
 
-abbrev pub words : Form ℕ
-words = record { extent = λ n. n * eventWords; hold = wordsOf; blank = 0 }
+abbrev pub asWords : Form ℕ
+asWords = record { extent = λ n. n * eventWords; hold = wordsOf; blank = 0 }
 
 -- `size` is how many words of events are lent
 abbrev pub Called : Given → ℕ → Report → List ℕ → List ℕ → List ℕ → Type 0
-Called g size = Returned words (call g) (g .room) size (g .work)
+Called g size = Returned asWords (call g) (g .room) size (g .work)
 
 -- as the contracts have it: what is lent, then what is handed back
 abbrev pub calledWith : List ℕ → List ℕ → ℕ → ℕ → List ℕ → List ℕ → List ℕ → Report → List ℕ → List ℕ → List ℕ → Type 0

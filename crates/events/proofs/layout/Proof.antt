@@ -164,7 +164,7 @@ module _ {M : Type 1} (𝓤 : URA M) (H : Heap 𝓤) (A : Atoms 𝓤) (W : Given
   OwnX = ShrSlice (named 1) κ₁ u8 .own xx (sx ∷ [])
 
   abbrev mach : Report → Val
-  mach r = vstruct (vcons (vint w32 (r .answer)) (vcons (vstruct (vcons (vint w32 (r .place .0)) vnil)) (vcons (vint w32 (r .steps)) (vcons (vint w32 (r .used)) (vcons (vint w32 (r .marks)) vnil)))))
+  mach r = vstruct (vcons (vint w32 (r .answer)) (vcons (vstruct (vcons (vint w32 (r .place .0)) vnil)) (vcons (vint w32 (r .steps)) (vcons (vint w32 (r .used)) (vcons (vint w32 (r .events)) vnil)))))
 
   abbrev Post : Val → SProp 𝓤
   Post = walkOf 𝓤 H A f.ended stayed (f.clauses 𝓤 H A mem run) .post (((κ₀, (κ₁, (κ₂, (κ₃, (κ₄, tt))))), (q₀, (q₁, (q₂, (q₃, (q₄, tt))))), tt, x, at), tt)
@@ -237,11 +237,11 @@ module _ {M : Type 1} (𝓤 : URA M) (H : Heap 𝓤) (A : Atoms 𝓤) (W : Given
         move ! (7 ∷ 8 ∷ []) $ join ! $ move ! (3 ∷ 0 ∷ []) $ join ! $ move ! (8 ∷ 0 ∷ []) $ join ! $ move ! (8 ∷ 0 ∷ []) $ join ! $ move ! (8 ∷ 0 ∷ []) $ join ! $ move ! (5 ∷ 3 ∷ []) $ join ! $ move ! (2 ∷ 7 ∷ []) $ join ! $ move ! (9 ∷ 0 ∷ []) $ join ! $ move ! (2 ∷ 1 ∷ 0 ∷ []) $ use3 W (raw (Staged 𝓤 H A mem run .pre (to-staged l₈ ν δ))) (goes-staged l₈ ν δ) $
         -- `staged`
         calls-at ! fm (Staged 𝓤 H A mem run) known-staged (to-staged l₈ ν δ) (and-then ! (load ! (from ! (stop !)) (look ! 50 refl)) (and-then ! (load ! (from ! (stop !)) (look ! 48 refl)) (and-then ! (load ! (from ! (stop !)) (look ! 46 refl)) (and-then ! (load ! (from ! (stop !)) (look ! 44 refl)) (and-then ! (load ! (from ! (stop !)) (look ! 27 refl)) (and-then ! (load ! (from ! (stop !)) (look ! 35 refl)) (and-then ! (load ! (from ! (stop !)) (look ! 23 refl)) (and-then ! (load ! (from ! (stop !)) (look ! 19 refl)) (no-more !))))))))) (λ w.
-        use1 W (later (some (λ (r : Report). ((‵ (flft κ₀ q₀) ⊛ ‵ (flft κ₁ q₁) ⊛ ‵ (flft κ₂ q₂) ⊛ ‵ (flft (ν ∷ []) fullShare) ⊛ ‵ (flft κ₄ q₄) ⊛ ‵ ftrue) ⊛ ‵ (D.the-row .own r (w ∷ []))) ⊛ raw (ensured 𝓤 H A staged.ended (staged.clauses 𝓤 H A mem run) (κ₀, (κ₁, (κ₂, (ν ∷ [], (κ₄, tt))))) (as-staged l₈ δ) tt r)))) (id⊢ 𝓤 _) $ await ! tt $ pick ! (λ r. split ! $ move ! (1 ∷ []) $ use1 W (some (λ (zs : Lasts). ‵ (lasts staged.ended (κ₀, (κ₁, (κ₂, (ν ∷ [], (κ₄, tt))))) (as-staged l₈ δ) zs) ⊛ raw (fact 𝓤 (Promised r (o-of zs) (published (w-of zs) (r .marks) m) (k-of zs))))) (id⊢ 𝓤 _) $ pick ! (λ zs.
-        split ! $ move ! (1 ∷ []) $ heard ! (Promised r (o-of zs) (published (w-of zs) (r .marks) m) (k-of zs)) (λ e. fsplit ! $ move ! (1 ∷ []) $ fsplit ! $ move ! (1 ∷ []) $ fsplit ! $ move ! (1 ∷ []) $ fsplit ! $ move ! (1 ∷ []) $ fsplit ! $ move ! (1 ∷ []) $ fsplit ! $ move ! (1 ∷ []) $ fsplit ! $ move ! (1 ∷ []) $ fsplit ! $ move ! (2 ∷ []) $ fsplit ! $ move ! (1 ∷ []) $ feqL ! (λ lw. move ! (4 ∷ []) $ fsplit ! $ move ! (1 ∷ []) $ feqL ! (λ lo. move ! (2 ∷ []) $ fsplit ! $ move ! (1 ∷ []) $ feqL ! (λ lk. move ! (9 ∷ []) $ split ! $ move ! (1 ∷ []) $ peeks ! D.the-row (Is D.the-row) (shows 𝓤 H A D.the-row) r (w ∷ []) (λ is′.
+        use1 W (later (some (λ (r : Report). ((‵ (flft κ₀ q₀) ⊛ ‵ (flft κ₁ q₁) ⊛ ‵ (flft κ₂ q₂) ⊛ ‵ (flft (ν ∷ []) fullShare) ⊛ ‵ (flft κ₄ q₄) ⊛ ‵ ftrue) ⊛ ‵ (D.the-row .own r (w ∷ []))) ⊛ raw (ensured 𝓤 H A staged.ended (staged.clauses 𝓤 H A mem run) (κ₀, (κ₁, (κ₂, (ν ∷ [], (κ₄, tt))))) (as-staged l₈ δ) tt r)))) (id⊢ 𝓤 _) $ await ! tt $ pick ! (λ r. split ! $ move ! (1 ∷ []) $ use1 W (some (λ (zs : Lasts). ‵ (lasts staged.ended (κ₀, (κ₁, (κ₂, (ν ∷ [], (κ₄, tt))))) (as-staged l₈ δ) zs) ⊛ raw (fact 𝓤 (Promised r (o-of zs) (published (w-of zs) (r .events) m) (k-of zs))))) (id⊢ 𝓤 _) $ pick ! (λ zs.
+        split ! $ move ! (1 ∷ []) $ heard ! (Promised r (o-of zs) (published (w-of zs) (r .events) m) (k-of zs)) (λ e. fsplit ! $ move ! (1 ∷ []) $ fsplit ! $ move ! (1 ∷ []) $ fsplit ! $ move ! (1 ∷ []) $ fsplit ! $ move ! (1 ∷ []) $ fsplit ! $ move ! (1 ∷ []) $ fsplit ! $ move ! (1 ∷ []) $ fsplit ! $ move ! (1 ∷ []) $ fsplit ! $ move ! (2 ∷ []) $ fsplit ! $ move ! (1 ∷ []) $ feqL ! (λ lw. move ! (4 ∷ []) $ fsplit ! $ move ! (1 ∷ []) $ feqL ! (λ lo. move ! (2 ∷ []) $ fsplit ! $ move ! (1 ∷ []) $ feqL ! (λ lk. move ! (9 ∷ []) $ split ! $ move ! (1 ∷ []) $ peeks ! D.the-row (Is D.the-row) (shows 𝓤 H A D.the-row) r (w ∷ []) (λ is′.
         let is : Is D.the-row r (mach r ∷ []) = subst (Is D.the-row r) (LL.tells D.the-type D′.the-laws r _ is′) is′ in
         let wt : Holds (hasTy D′.mir (mach r)) × WT (mach r) = LL.lawful D.the-type D′.the-laws 𝓤 H A W .typed r _ is .0 in
-        let gm : r .marks < 2 ^ 32 = LL.owed D.the-type D′.the-laws r _ is .1 .1 .1 .1 .0 .1 in
+        let gm : r .events < 2 ^ 32 = LL.owed D.the-type D′.the-laws r _ is .1 .1 .1 .1 .0 .1 in
         land ! (from ! (stop !)) (init ! 43 refl (LL.lawful D.the-type D′.the-laws 𝓤 H A W .typed r _ is′ .0)) $ rewrite ! 43 (λ (u : Val). ‵ (fat fullShare D′.mir l₁₀ 0 u)) (ap only (LL.tells D.the-type D′.the-laws r _ is′)) refl $
         -- the lifetime is ended, and the memory comes back
         move ! (1 ∷ []) $ split ! $ move ! (1 ∷ []) $ split ! $ move ! (1 ∷ []) $ split ! $ move ! (1 ∷ []) $ split ! $ move ! (1 ∷ []) $ split ! $ move ! (2 ∷ []) $ lft-end ! tt $ move ! (0 ∷ 16 ∷ 9 ∷ []) $ use3 W (later (‵ (Arr (in-memory u32) most .lies (w-of zs) l₈ 0))) (slice-back 𝓤 H A W u32 (ν ∷ []) δ (w-of zs) most l₈ 0) $ await ! tt $ fsplit ! $ drop ! $ use1 W (‵ (row u32 fullShare (w-of zs) l₈ 0)) (whole-out 𝓤 H A W u32 (w-of zs) l₈ 0) $ feqI ! ℕ (length (w-of zs)) (length (w-of zs)) refl $ fjoin ! $
@@ -250,11 +250,11 @@ module _ {M : Type 1} (𝓤 : URA M) (H : Heap 𝓤) (A : Atoms 𝓤) (W : Given
         assigns ! (addr ! (from ! (fld ! refl (hop ! (look-in ! 53 (sub ! 0 refl (whole !))) (stop !))))) (from ! (stop !)) (init ! 24 refl (tt, tt)) $ assigns ! (agg ! (and-then ! (load ! (from ! (stop !)) (look ! 24 refl)) (and-then ! (load ! (from ! (fld ! refl (stop !))) (look-in ! 53 (sub ! 1 refl (whole !)))) (no-more !)))) (from ! (stop !)) (init ! 22 refl (tt, (tt, (record { fits = gy .0 }, tt)))) $
         -- the words are shared out
         lft-new ! tt (λ ν₂. move ! (1 ∷ []) $ use1 W (later (some (λ (δ₂ : GName). ‵ (ShrSlice (named 0) (ν₂ ∷ []) u32 .own (xw l₈ δ₂ (w-of zs)) (sliceVal (l₈, 0) (length (w-of zs)) ∷ [])) ⊛ ‵ (flent (ν₂ ∷ []) (arr-parts (shares u32) (length (w-of zs)) .part fullShare (w-of zs) l₈ 0))))) (lends-shr-slice 𝓤 H A W u32 (named 0) (ν₂ ∷ []) fullShare (w-of zs) l₈ 0 (subst (Room u32) (sym lw) room)) $ await ! tt $ pick ! (λ δ₂. split ! $ rewrite ! 0 (λ (k : ℕ). ‵ (ShrSlice (named 0) (ν₂ ∷ []) u32 .own (xw l₈ δ₂ (w-of zs)) (sliceVal (l₈, 0) k ∷ []))) lw refl $
-        move ! (19 ∷ 4 ∷ []) $ join ! $ move ! (3 ∷ 0 ∷ []) $ join ! $ move ! (0 ∷ 1 ∷ 19 ∷ []) $ use3 W (raw (Publish 𝓤 H A mem run .pre (to-publish l₈ ν₂ δ₂ (w-of zs) (r .marks)))) (goes-publish l₈ ν₂ δ₂ (w-of zs) (r .marks) gm) $
+        move ! (19 ∷ 4 ∷ []) $ join ! $ move ! (3 ∷ 0 ∷ []) $ join ! $ move ! (0 ∷ 1 ∷ 19 ∷ []) $ use3 W (raw (Publish 𝓤 H A mem run .pre (to-publish l₈ ν₂ δ₂ (w-of zs) (r .events)))) (goes-publish l₈ ν₂ δ₂ (w-of zs) (r .events) gm) $
         -- `publish`
-        calls-at ! fm (Publish 𝓤 H A mem run) known-publish (to-publish l₈ ν₂ δ₂ (w-of zs) (r .marks)) (and-then ! (load ! (from ! (stop !)) (look ! 24 refl)) (and-then ! (load ! (from ! (stop !)) (look ! 42 refl)) (and-then ! (load ! (from ! (stop !)) (look ! 20 refl)) (no-more !)))) (λ w₂.
-        use1 W (later (some (λ (r₂ : Unit {0}). ((‵ (flft (ν₂ ∷ []) fullShare) ⊛ ‵ (flft κ₃ q₃) ⊛ ‵ ftrue) ⊛ ‵ (unit .own r₂ (w₂ ∷ []))) ⊛ raw (ensured 𝓤 H A publish.ended (publish.clauses 𝓤 H A mem run) (ν₂ ∷ [], (κ₃, tt)) (xw l₈ δ₂ (w-of zs), (r .marks, (xe, tt))) tt r₂)))) (id⊢ 𝓤 _) $ await ! tt $ pick ! (λ r₂. split ! $ move ! (1 ∷ []) $ use1 W (some (λ (us : Unit {0} × (Unit {0} × (List Event × Unit {0}))). ‵ (lasts publish.ended (ν₂ ∷ [], (κ₃, tt)) (xw l₈ δ₂ (w-of zs), (r .marks, (xe, tt))) us) ⊛ raw (fact 𝓤 (us .1 .1 .0 ≡ published (w-of zs) (r .marks) m)))) (id⊢ 𝓤 _) $ pick ! (λ us.
-        split ! $ move ! (1 ∷ []) $ heard ! (us .1 .1 .0 ≡ published (w-of zs) (r .marks) m) (λ e₂. fsplit ! $ move ! (1 ∷ []) $ fsplit ! $ move ! (1 ∷ []) $ fsplit ! $ move ! (0 ∷ []) $ fsplit ! $ move ! (1 ∷ []) $ feqL ! (λ le. move ! (4 ∷ []) $ split ! $ move ! (1 ∷ []) $ feqL ! (λ u.
+        calls-at ! fm (Publish 𝓤 H A mem run) known-publish (to-publish l₈ ν₂ δ₂ (w-of zs) (r .events)) (and-then ! (load ! (from ! (stop !)) (look ! 24 refl)) (and-then ! (load ! (from ! (stop !)) (look ! 42 refl)) (and-then ! (load ! (from ! (stop !)) (look ! 20 refl)) (no-more !)))) (λ w₂.
+        use1 W (later (some (λ (r₂ : Unit {0}). ((‵ (flft (ν₂ ∷ []) fullShare) ⊛ ‵ (flft κ₃ q₃) ⊛ ‵ ftrue) ⊛ ‵ (unit .own r₂ (w₂ ∷ []))) ⊛ raw (ensured 𝓤 H A publish.ended (publish.clauses 𝓤 H A mem run) (ν₂ ∷ [], (κ₃, tt)) (xw l₈ δ₂ (w-of zs), (r .events, (xe, tt))) tt r₂)))) (id⊢ 𝓤 _) $ await ! tt $ pick ! (λ r₂. split ! $ move ! (1 ∷ []) $ use1 W (some (λ (us : Unit {0} × (Unit {0} × (List Event × Unit {0}))). ‵ (lasts publish.ended (ν₂ ∷ [], (κ₃, tt)) (xw l₈ δ₂ (w-of zs), (r .events, (xe, tt))) us) ⊛ raw (fact 𝓤 (us .1 .1 .0 ≡ published (w-of zs) (r .events) m)))) (id⊢ 𝓤 _) $ pick ! (λ us.
+        split ! $ move ! (1 ∷ []) $ heard ! (us .1 .1 .0 ≡ published (w-of zs) (r .events) m) (λ e₂. fsplit ! $ move ! (1 ∷ []) $ fsplit ! $ move ! (1 ∷ []) $ fsplit ! $ move ! (0 ∷ []) $ fsplit ! $ move ! (1 ∷ []) $ feqL ! (λ le. move ! (4 ∷ []) $ split ! $ move ! (1 ∷ []) $ feqL ! (λ u.
         land ! (from ! (stop !)) (init ! 32 refl (subst (λ (v : Val). Holds (hasTy tyUnit v) × WT v) (sym (ap only u)) (tt, tt))) $
         -- the memory comes back, as room for the array
         move ! (0 ∷ []) $ split ! $ lft-end ! tt $ move ! (0 ∷ 6 ∷ []) $ lent-back ! tt $ fsplit ! $ drop ! $ use1 W (‵ (cells (in-memory u32) (w-of zs) l₈ 0)) (whole-in 𝓤 H A W u32 (w-of zs) l₈ 0) $ use1 W (‵ (froom (tyArray (tyInt w32) (length (w-of zs))) l₈ 0)) (cells-room 𝓤 H A W (w-of zs) l₈ 0) $ rewrite ! 0 (λ (k : ℕ). ‵ (froom (tyArray (tyInt w32) k) l₈ 0)) lw refl $ move ! (1 ∷ []) $ split ! $
