@@ -30,7 +30,7 @@ use Rattle.layout.proofs.Whole.{call-sizes, call-fault, call-run, buffe
 use Rattle.layout.proofs.Returned as returned
 
 -- words are a form of events
-words-lawful : returned.Lawful asWords
+pub words-lawful : returned.Lawful asWords
 unfolding wordsOf
 words-lawful = record { none = refl; extent = length-words }
 

@@ -42,9 +42,9 @@ use Rattle.events.specs.declared.Event.{Event}
 use Rattle.events.proofs.Event as T
 use Rattle.events.proofs.Event.Laws as T′
 use Rattle.layout.specs.Called.{defaultWidth, defaultSteps}
-use Rattle.events.specs.Called.{asked}
+use Rattle.events.specs.Called.{asked, asRecords}
 use Rattle.events.proofs.Local.{big-lit}
-use Rattle.pursegable.specs.Exported.{Records}
+use Rattle.pursegable.specs.Exported.{Exported}
 use Rattle.pursegable.proofs.pursegable_layout as lay
 use Rattle.pursegable.proofs.pursegable_layout.Symbol.{name as #pursegable·pursegable-layout}
 use Rattle.pursegable.proofs.pursegable_label as f
@@ -116,7 +116,7 @@ module _ {M : Type 1} (𝓤 : URA M) (H : Heap 𝓤) (A : Atoms 𝓤) (W : Given
   asks = asked (xt .now) (xx .now) defaultWidth defaultSteps (length (xo .now)) (length (xe .now)) (length (xk .now))
 
   abbrev Promised : ℕ → List ℕ → List Event → List ℕ → List ℕ → Type 0
-  Promised r os us ks ts = Records asks r os us ks ts (length (xr .now))
+  Promised = Exported asRecords (length (xe .now)) asks (length (xr .now))
 
   abbrev st : Val
   st = sliceVal (xt .ptr) (length (xt .now))

@@ -44,14 +44,14 @@ use Rattle.layout.specs.declared.Report.{Report}
 use Rattle.layout.proofs.Report as D
 use Rattle.layout.proofs.Report.Laws as D′
 use Rattle.events.specs.declared.Event.{Event}
-use Rattle.events.specs.Called.{asked, Called}
+use Rattle.events.specs.Called.{asked, Called, asRecords}
 use Rattle.events.proofs.Event as T
 use Rattle.events.proofs.layout as lay
 use Rattle.events.proofs.layout.Symbol as lay-def
 use Rattle.events.proofs.layout.Symbol.{name as #events·layout}
 use Rattle.events.proofs.layout.Met as lay-thm
-use Rattle.pursegable.specs.Exported.{told, Records}
-use Rattle.pursegable.proofs.Answering.{limitFor, records-exported}
+use Rattle.pursegable.specs.Exported.{fiveOf, told, limitFor, Exported}
+use Rattle.pursegable.proofs.Answering.{exported}
 use Rattle.pursegable.proofs.limit_for as limit
 use Rattle.pursegable.proofs.limit_for.Symbol as limit-def
 use Rattle.pursegable.proofs.limit_for.Symbol.{name as #pursegable·limit-for}
@@ -105,10 +105,6 @@ e-of zs = zs .1 .1 .1 .1 .1 .0
 abbrev k-of : Lasts → List ℕ
 k-of zs = zs .1 .1 .1 .1 .1 .1 .0
 
--- the words that `tell` puts into the report
-abbrev five-of : Report → List ℕ
-five-of r = r .answer ∷ r .place .0 ∷ r .steps ∷ r .used ∷ r .marks ∷ []
-
 module _ {M : Type 1} (𝓤 : URA M) (H : Heap 𝓤) (A : Atoms 𝓤) (W : Given 𝓤 H A) (mem : Memory → SProp 𝓤) (run : Routine → Fun 𝓤) (κ₀ κ₁ κ₂ κ₃ κ₄ κ₅ : Lft) (q₀ q₁ q₂ q₃ q₄ q₅ : Share)
     (xt xx : RefT (List ℕ)) (wi li : ℕ) (xo : RefT (List ℕ)) (xe : RefT (List Event)) (xk xr : RefT (List ℕ))
     (gt : Room u32 (length (xt .now))) (gx : Room u8 (length (xx .now))) (gwi : wi < 2 ^ 32) (gli : li < 2 ^ 32) (go : Room u8 (length (xo .now))) (gy : Room T.the-row (length (xe .now))) (gk : Room u32 (length (xk .now))) (gr : Room u32 (length (xr .now))) where
@@ -119,6 +115,9 @@ module _ {M : Type 1} (𝓤 : URA M) (H : Heap 𝓤) (A : Atoms 𝓤) (W : Given
   -- the call, at a limit
   abbrev asks : ℕ → rules.Given
   asks l = asked (xt .now) (xx .now) wi l (length (xo .now)) (length (xe .now)) (length (xk .now))
+
+  abbrev Promised : ℕ → List ℕ → List Event → List ℕ → List ℕ → Type 0
+  Promised = Exported asRecords (length (xe .now)) (asks li) n
 
   abbrev st : Val
   st = sliceVal (xt .ptr) (length (xt .now))
@@ -157,7 +156,7 @@ module _ {M : Type 1} (𝓤 : URA M) (H : Heap 𝓤) (A : Atoms 𝓤) (W : Given
   OwnX = ShrSlice (named 1) κ₁ u8 .own xx (sx ∷ [])
 
   abbrev mach : Report → Val
-  mach r = vstruct (vcons (vint w32 (r .answer)) (vcons (vstruct (vcons (vint w32 (r .place .0)) vnil)) (vcons (vint w32 (r .steps)) (vcons (vint w32 (r .used)) (vcons (vint w32 (r .marks)) vnil)))))
+  mach r = vstruct (vcons (vint w32 (r .answer)) (vcons (vstruct (vcons (vint w32 (r .place .0)) vnil)) (vcons (vint w32 (r .steps)) (vcons (vint w32 (r .used)) (vcons (vint w32 (r .events)) vnil)))))
 
   abbrev Post : Val → SProp 𝓤
   Post = walkOf 𝓤 H A f.ended stayed (f.clauses 𝓤 H A mem run) .post (((κ₀, (κ₁, (κ₂, (κ₃, (κ₄, (κ₅, tt)))))), (q₀, (q₁, (q₂, (q₃, (q₄, (q₅, tt)))))), tt, x, at), tt)
@@ -208,7 +207,7 @@ module _ {M : Type 1} (𝓤 : URA M) (H : Heap 𝓤) (A : Atoms 𝓤) (W : Given
       qed W ((‵ (flft κ₅ q₅) ⊛ ‵ ftrue) ∷ ‵ (MutSlice (named 0) κ₅ u32 .own xr (sr ∷ [])) ∷ []) ∵
       nothing ! $ move ! (2 ∷ 0 ∷ []) $ fjoin ! $ owned ! D.the-row (Is D.the-row) (LL.makes D.the-type D′.the-plain 𝓤 H A) r _ is $ fjoin ! $ move ! (1 ∷ 0 ∷ []) $ join ! $ frame ! $ done !
 
-  exits : (r : Report) → r .answer < 2 ^ 32 → (os : List ℕ) (us : List Event) (ks ts : List ℕ) → Records (asks li) (r .answer) os us ks ts n → length os ≡ length (xo .now) → length us ≡ length (xe .now) → length ks ≡ length (xk .now) → length ts ≡ n
+  exits : (r : Report) → r .answer < 2 ^ 32 → (os : List ℕ) (us : List Event) (ks ts : List ℕ) → Promised (r .answer) os us ks ts → length os ≡ length (xo .now) → length us ≡ length (xe .now) → length ks ≡ length (xk .now) → length ts ≡ n
       → ent 𝓤 (⋆ 𝓤 H A ((‵ (flft κ₀ q₀) ⊛ ‵ (flft κ₁ q₁) ⊛ ‵ (flft κ₂ q₂) ⊛ ‵ (flft κ₃ q₃) ⊛ ‵ (flft κ₄ q₄) ⊛ ‵ (flft κ₅ q₅) ⊛ ‵ ftrue) ∷ ‵ OwnT ∷ ‵ OwnX ∷ ‵ (finally u8 (xo .name) os) ∷ ‵ (finally T.the-row (xe .name) us) ∷ ‵ (finally u32 (xk .name) ks) ∷ ‵ (finally u32 (xr .name) ts) ∷ []))
       (Post (vint w32 (r .answer)))
   exits r ga os us ks ts promised lo le lk lr =
@@ -249,13 +248,13 @@ module _ {M : Type 1} (𝓤 : URA M) (H : Heap 𝓤) (A : Atoms 𝓤) (W : Given
         assigns ! (addr ! (from ! (fld ! refl (hop ! (look-in ! 44 (sub ! 0 refl (whole !))) (stop !))))) (from ! (stop !)) (init ! 22 refl (tt, tt)) $ assigns ! (agg ! (and-then ! (load ! (from ! (stop !)) (look ! 22 refl)) (and-then ! (load ! (from ! (fld ! refl (stop !))) (look-in ! 44 (sub ! 1 refl (whole !)))) (no-more !)))) (from ! (stop !)) (init ! 20 refl (tt, (tt, (record { fits = gr .0 }, tt)))) $
         -- `tell`: the last of the tokens goes with the report
         move ! (1 ∷ []) $ split ! $ move ! (1 ∷ []) $ split ! $ move ! (1 ∷ []) $ split ! $ move ! (1 ∷ []) $ split ! $ move ! (1 ∷ []) $ split ! $ move ! (17 ∷ 1 ∷ []) $ join ! $ move ! (0 ∷ 17 ∷ []) $ use2 W (raw (Tell 𝓤 H A mem run .pre (to-tell r))) (goes-tell r is) $ calls-at ! fm (Tell 𝓤 H A mem run) known-tell (to-tell r) (and-then ! (load ! (from ! (stop !)) (look ! 41 refl)) (and-then ! (load ! (from ! (stop !)) (look ! 23 refl)) (no-more !))) (λ w₃.
-        use1 W (later (some (λ (u : Unit {0}). ((‵ (flft κ₅ q₅) ⊛ ‵ ftrue) ⊛ ‵ (unit .own u (w₃ ∷ []))) ⊛ raw (ensured 𝓤 H A tell.ended (tell.clauses 𝓤 H A mem run) (κ₅, tt) (r, (xr, tt)) tt u)))) (id⊢ 𝓤 _) $ await ! tt $ take-up ! (λ u. split ! $ move ! (1 ∷ []) $ use1 W (some (λ (ts : Unit {0} × (List ℕ × Unit {0})). ‵ (lasts tell.ended (κ₅, tt) (r, (xr, tt)) ts) ⊛ raw (fact 𝓤 (ts .1 .0 ≡ told (five-of r) n)))) (id⊢ 𝓤 _) $ take-up ! (λ ts.
-        split ! $ move ! (1 ∷ []) $ heard ! (ts .1 .0 ≡ told (five-of r) n) (λ is-told. fsplit ! $ move ! (1 ∷ []) $ fsplit ! $ move ! (0 ∷ []) $ fsplit ! $ move ! (1 ∷ []) $ feqL ! (λ lr. move ! (3 ∷ []) $ split ! $ move ! (1 ∷ []) $ feqL ! (λ v.
+        use1 W (later (some (λ (u : Unit {0}). ((‵ (flft κ₅ q₅) ⊛ ‵ ftrue) ⊛ ‵ (unit .own u (w₃ ∷ []))) ⊛ raw (ensured 𝓤 H A tell.ended (tell.clauses 𝓤 H A mem run) (κ₅, tt) (r, (xr, tt)) tt u)))) (id⊢ 𝓤 _) $ await ! tt $ take-up ! (λ u. split ! $ move ! (1 ∷ []) $ use1 W (some (λ (ts : Unit {0} × (List ℕ × Unit {0})). ‵ (lasts tell.ended (κ₅, tt) (r, (xr, tt)) ts) ⊛ raw (fact 𝓤 (ts .1 .0 ≡ told (fiveOf r) n)))) (id⊢ 𝓤 _) $ take-up ! (λ ts.
+        split ! $ move ! (1 ∷ []) $ heard ! (ts .1 .0 ≡ told (fiveOf r) n) (λ is-told. fsplit ! $ move ! (1 ∷ []) $ fsplit ! $ move ! (0 ∷ []) $ fsplit ! $ move ! (1 ∷ []) $ feqL ! (λ lr. move ! (3 ∷ []) $ split ! $ move ! (1 ∷ []) $ feqL ! (λ v.
         land ! (from ! (stop !)) (init ! 30 refl (subst (λ (y : Val). Holds (hasTy tyUnit y) × WT y) (sym (ap only v)) (tt, tt))) $ move ! (0 ∷ []) $ split ! $
         -- the end
         assigns ! (of-opd ! (load ! (from ! (fld ! refl (stop !))) (look-in ! 45 (sub ! 0 refl (whole !))))) (from ! (stop !)) (init ! 67 refl (tt, record { fits = ga })) $ returns ! (look ! 67 refl) $ forget ! 27 refl $ forget ! 29 refl $ forget ! 31 refl $ forget ! 33 refl $ forget ! 35 refl $ forget ! 37 refl $ forget ! 39 refl $ forget ! 41 refl $ forget ! 43 refl $ forget ! 45 refl $ forget ! 47 refl $ forget ! 49 refl $ forget ! 51 refl $ forget ! 53 refl $ forget ! 55 refl $ forget ! 57 refl $ forget ! 59 refl $ forget ! 61 refl $ forget ! 63 refl $ forget ! 65 refl $ forget ! 67 refl $
         move ! (67 ∷ 68 ∷ []) $ free1 ! $ move ! (65 ∷ 66 ∷ []) $ free1 ! $ move ! (63 ∷ 64 ∷ []) $ free1 ! $ move ! (61 ∷ 62 ∷ []) $ free1 ! $ move ! (59 ∷ 60 ∷ []) $ free1 ! $ move ! (57 ∷ 58 ∷ []) $ free1 ! $ move ! (55 ∷ 56 ∷ []) $ free1 ! $ move ! (53 ∷ 54 ∷ []) $ free1 ! $ move ! (51 ∷ 52 ∷ []) $ free1 ! $ move ! (49 ∷ 50 ∷ []) $ free1 ! $ move ! (47 ∷ 48 ∷ []) $ free1 ! $ move ! (45 ∷ 46 ∷ []) $ free1 ! $ move ! (43 ∷ 44 ∷ []) $ free1 ! $ move ! (41 ∷ 42 ∷ []) $ free1 ! $ move ! (39 ∷ 40 ∷ []) $ free1 ! $ move ! (37 ∷ 38 ∷ []) $ free1 ! $ move ! (35 ∷ 36 ∷ []) $ free1 ! $ move ! (33 ∷ 34 ∷ []) $ free1 ! $ move ! (31 ∷ 32 ∷ []) $ free1 ! $ move ! (29 ∷ 30 ∷ []) $ free1 ! $ move ! (27 ∷ 28 ∷ []) $ free1 ! $ free0 ! $
-        move ! (0 ∷ 1 ∷ []) $ join ! $ move ! (4 ∷ 0 ∷ []) $ join ! $ move ! (4 ∷ 0 ∷ []) $ join ! $ move ! (4 ∷ 0 ∷ []) $ join ! $ move ! (4 ∷ 0 ∷ []) $ join ! $ move ! (4 ∷ 0 ∷ []) $ join ! $ keep ! (0 ∷ 14 ∷ 13 ∷ 7 ∷ 6 ∷ 5 ∷ 1 ∷ []) $ by ! (exits r ga (o-of zs) (e-of zs) (k-of zs) (ts .1 .0) (records-exported (asks li) n l r (o-of zs) (e-of zs) (k-of zs) (ts .1 .0) is-limit called is-told) lo le lk lr)))))))))))))))))))))))))))))))))))))))))
+        move ! (0 ∷ 1 ∷ []) $ join ! $ move ! (4 ∷ 0 ∷ []) $ join ! $ move ! (4 ∷ 0 ∷ []) $ join ! $ move ! (4 ∷ 0 ∷ []) $ join ! $ move ! (4 ∷ 0 ∷ []) $ join ! $ move ! (4 ∷ 0 ∷ []) $ join ! $ keep ! (0 ∷ 14 ∷ 13 ∷ 7 ∷ 6 ∷ 5 ∷ 1 ∷ []) $ by ! (exits r ga (o-of zs) (e-of zs) (k-of zs) (ts .1 .0) (exported asRecords (asks li) n (length (xe .now)) l is-limit called is-told) lo le lk lr)))))))))))))))))))))))))))))))))))))))))
 
 module _ {M : Type 1} (𝓤 : URA M) (H : Heap 𝓤) (A : Atoms 𝓤) (W : Given 𝓤 H A) (mem : Memory → SProp 𝓤) (run : Routine → Fun 𝓤) (𝓣 : Tables 𝓤 H) (known-limit : Triple 𝓤 (𝓣 .C #pursegable·limit-for) (LimitFor 𝓤 H A mem run)) (known-layout : Triple 𝓤 (𝓣 .C #events·layout) (Layout 𝓤 H A mem run)) (known-tell : Triple 𝓤 (𝓣 .C #pursegable·tell) (Tell 𝓤 H A mem run)) where
   walks : Walks 𝓤 H A f.ended stayed (WpFn 𝓤 H (𝓣 .C) (𝓣 .Λ) code.function) (f.clauses 𝓤 H A mem run)

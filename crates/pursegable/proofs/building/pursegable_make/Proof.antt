@@ -1,11 +1,11 @@
--- `make` meets its contract: too few words, an unknown constructor, or what the constructor answers.
+-- `pursegable_make` meets its contract: too few words, an unknown constructor, or what the constructor answers.
 -- Assumes nothing.
 use borrow.Author.Needs.{needs}
 use borrow.Author.Tests.{not-true, not-false}
 use mathlib.Core.Path.{sym, _∙_}
-use Rattle.numbered.proofs.Making.{makes-short, makes-unknown, makes-settled}
-use Rattle.numbered.proofs.make.Statement.{statement}
-use Rattle.numbered.proofs.make.Tie as tie
+use Rattle.pursegable.proofs.Making.{makes-short, makes-unknown, makes-left}
+use Rattle.pursegable.proofs.building.pursegable_make.Statement.{statement}
+use Rattle.pursegable.proofs.building.pursegable_make.Tie as tie
 
 returns : tie.Need-returns
 returns c = makes-short _ _ _ _ _ _ _ (c .if1 .taken)
@@ -36,11 +36,11 @@ same-length-3 c = search needs
 
 returns-3 : tie.Need-returns-3
 returns-3 c =
-    makes-settled _ _ _ _ _ _ _ _ _ _ _ _ _ (c .before .before .before .before .before .before .before .before .before .before .before .before .before .before .before .if1 .left) (sym (c .before .before .before .before .before .before .before .before .before .before .before .before .before .before .known .ensures) ∙ not-false _ (c .before .before .before .before .before .before .before .before .before .before .before .before .before .if2 .left)) (c .before .before .before .before .before .before .before .before .before .before .before .counts-of .ensures)
+    makes-left _ _ _ _ _ _ _ _ _ _ _ _ _ (c .before .before .before .before .before .before .before .before .before .before .before .before .before .before .before .if1 .left) (sym (c .before .before .before .before .before .before .before .before .before .before .before .before .before .before .known .ensures) ∙ not-false _ (c .before .before .before .before .before .before .before .before .before .before .before .before .before .if2 .left)) (c .before .before .before .before .before .before .before .before .before .before .before .counts-of .ensures)
     (c .before .before .before .before .before .before .before .before .any .ensures) (c .before .before .settle .ensures)
 
-pub make-spec : {M : Type 1} → statement M
-make-spec =
+pub pursegable-make-spec : {M : Type 1} → statement M
+pursegable-make-spec =
     tie.close
     (tie.spec
     returns

@@ -5,10 +5,10 @@ use mathlib.Core.Path.{sym, ap, _∙_}
 use native.Mathlib.Omega.{arith}
 use lib.ListN.{length-set}
 use Rattle.build.specs.declared.Made.{Made}
-use Rattle.numbered.specs.Building.{answerOf, countsAfter}
-use Rattle.numbered.proofs.Making.{counts-set}
-use Rattle.numbered.proofs.counts.settle.Statement.{statement}
-use Rattle.numbered.proofs.counts.settle.Tie as tie
+use Rattle.pursegable.specs.Building.{answerOf, countsAfter}
+use Rattle.pursegable.proofs.Making.{counts-set}
+use Rattle.pursegable.proofs.counts.settle.Statement.{statement}
+use Rattle.pursegable.proofs.counts.settle.Tie as tie
 
 enum-known-made : tie.Need-enum-known-made
 enum-known-made c = search needs

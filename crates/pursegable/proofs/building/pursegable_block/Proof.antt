@@ -1,13 +1,13 @@
--- `block` meets its contract: too few words, too many flags, or what the block layout answers.
+-- `pursegable_block` meets its contract: too few words, too many flags, or what the block layout answers.
 -- Assumes nothing.
 use borrow.Author.Needs.{needs}
 use mathlib.Core.Path.{sym}
 use native.Mathlib.Omega.{arith}
 use lib.Seq.{length-take-le}
-use Rattle.numbered.proofs.Making.{built-short}
-use Rattle.numbered.proofs.Flags.{block-many, block-settled}
-use Rattle.numbered.proofs.block.Statement.{statement}
-use Rattle.numbered.proofs.block.Tie as tie
+use Rattle.pursegable.proofs.Making.{built-short}
+use Rattle.pursegable.proofs.Flags.{block-many, block-left}
+use Rattle.pursegable.proofs.building.pursegable_block.Statement.{statement}
+use Rattle.pursegable.proofs.building.pursegable_block.Tie as tie
 
 returns : tie.Need-returns
 returns c = built-short _ _ _ _ (c .if1 .taken)
@@ -46,11 +46,11 @@ same-length-2 c = search needs
 
 returns-3 : tie.Need-returns-3
 returns-3 c =
-    block-settled _ _ _ (c .before .before .before .before .before .before .before .before .before .before .before .before .before .before .before .before .before .before .before .before .before .before .args .nests .now) _ _ _ _ _ _ _ _ _ _ (c .before .before .before .before .before .before .before .before .before .before .before .before .before .before .before .if1 .left) (c .before .before .before .before .before .before .before .before .before .counts-of .ensures) (c .before .before .before .before .before .before .before .before .before .before .before .before .set-flags .ensures)
+    block-left _ _ _ (c .before .before .before .before .before .before .before .before .before .before .before .before .before .before .before .before .before .before .before .before .before .before .args .nests .now) _ _ _ _ _ _ _ _ _ _ (c .before .before .before .before .before .before .before .before .before .before .before .before .before .before .before .if1 .left) (c .before .before .before .before .before .before .before .before .before .counts-of .ensures) (c .before .before .before .before .before .before .before .before .before .before .before .before .set-flags .ensures)
     (c .before .before .before .before .before .before .format .ensures) (c .before .before .settle .ensures)
 
-pub block-spec : {M : Type 1} → statement M
-block-spec =
+pub pursegable-block-spec : {M : Type 1} → statement M
+pursegable-block-spec =
     tie.close
     (tie.spec
     returns

@@ -7,7 +7,7 @@ ghost use Prim.Native.Nat.{_≤_};
 ghost use lib.ListN.{length, getD};
 ghost use Rattle.build.specs.Draft.{countsOf};
 ghost use Rattle.build.specs.Outcome.{number};
-ghost use Rattle.numbered.specs.Building.{answerOf, countsAfter};
+ghost use Rattle.pursegable.specs.Building.{answerOf, countsAfter};
 
 // The words that the builder's counts take.
 pub const COUNTS_WORDS: usize = 3;

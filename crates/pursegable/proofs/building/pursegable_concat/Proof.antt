@@ -1,13 +1,13 @@
--- `intersperse` meets its contract: too few words, or what the constructor answers.
+-- `pursegable_concat` meets its contract: too few words, or what the constructor answers.
 -- Assumes nothing.
 use borrow.Author.Needs.{needs}
 use Rattle.build.specs.declared.Counts.{Counts}
-use Rattle.build.specs.Constructors.{intersperseMade}
+use Rattle.build.specs.Constructors.{concatMade}
 use mathlib.Core.List.{List}
 use Prim.Native.Nat.{ℕ}
-use Rattle.numbered.proofs.Making.{built-short, built-settled}
-use Rattle.numbered.proofs.intersperse.Statement.{statement}
-use Rattle.numbered.proofs.intersperse.Tie as tie
+use Rattle.pursegable.proofs.Making.{built-short, built-left}
+use Rattle.pursegable.proofs.building.pursegable_concat.Statement.{statement}
+use Rattle.pursegable.proofs.building.pursegable_concat.Tie as tie
 
 returns : tie.Need-returns
 returns c = built-short _ _ _ _ (c .if1 .taken)
@@ -15,8 +15,8 @@ returns c = built-short _ _ _ _ (c .if1 .taken)
 counts-of-requires : tie.Need-counts-of-requires
 counts-of-requires c κs = search needs
 
-intersperse-requires : tie.Need-intersperse-requires
-intersperse-requires c κs = search needs
+concat-requires : tie.Need-concat-requires
+concat-requires c κs = search needs
 
 settle-requires : tie.Need-settle-requires
 settle-requires c κs = search needs
@@ -34,8 +34,8 @@ returns-2 c =
     let at8 = at6 .before .before in
     let at10 = at8 .before .before in
     let start = at10 .before .before .before .before .before in
-    built-settled
-    (λ (s : Counts) (t x : List ℕ). intersperseMade s t x (start .args .nodes .now) (start .args .separator))
+    built-left
+    (λ (s : Counts) (t x : List ℕ). concatMade s t x (start .args .nodes .now))
     _
     _
     _
@@ -47,16 +47,16 @@ returns-2 c =
     _
     (at10 .if1 .left)
     (at8 .counts-of .ensures)
-    (at6 .intersperse .ensures)
+    (at6 .concat .ensures)
     (at2 .settle .ensures)
 
-pub intersperse-spec : {M : Type 1} → statement M
-intersperse-spec =
+pub pursegable-concat-spec : {M : Type 1} → statement M
+pursegable-concat-spec =
     tie.close
     (tie.spec
     returns
     counts-of-requires
-    intersperse-requires
+    concat-requires
     settle-requires
     same-length
     same-length-2

@@ -13,7 +13,7 @@ use Rattle.build.specs.declared.Made.{Made}
 use Rattle.build.specs.Draft.{countsOf}
 use Rattle.build.specs.Outcome.{Outcome, outcome}
 use Rattle.build.specs.Constructors.{encloseMade}
-use Rattle.numbered.specs.Building.{left, answerOf, countsAfter, settled, built, known, readingMade, anyMade, makes}
+use Rattle.pursegable.specs.Building.{left, answerOf, countsAfter, leftBy, built, known, readingMade, anyMade, makes}
 
 -- ---- by number
 
@@ -47,15 +47,15 @@ module _ (f : Counts → List ℕ → List ℕ → Outcome) (t x cs : List ℕ) 
   unfolding built
   built-short h = simp (lt-leb 3 (length cs) h)
 
-  pub built-settled : (s : Counts) (made : Made) (t′ x′ cs′ : List ℕ) (r : ℕ) → 3 ≤ length cs → s ≡ countsOf (getD cs 0 0) (getD cs 1 0)
+  pub built-left : (s : Counts) (made : Made) (t′ x′ cs′ : List ℕ) (r : ℕ) → 3 ≤ length cs → s ≡ countsOf (getD cs 0 0) (getD cs 1 0)
       → outcome made t′ x′ ≡ f s t x → (r ≡ answerOf made) × (cs′ ≡ countsAfter made cs) → left r t′ x′ cs′ ≡ built f t x cs
   unfolding built
-  built-settled s made t′ x′ cs′ r h is o e =
+  built-left s made t′ x′ cs′ r h is o e =
       let at : f s t x ≡ f (countsOf (getD cs 0 0) (getD cs 1 0)) t x = ap (λ (c : Counts). f c t x) is in
       ap (λ (a : ℕ). left a t′ x′ cs′) (e .0)
       ∙ ap (λ (c : List ℕ). left (answerOf made) t′ x′ c) (e .1)
-      ∙ ap (λ (u : Outcome). settled u cs) (o ∙ at)
-      ∙ ap (λ (b : Bool). pick b (settled (f (countsOf (getD cs 0 0) (getD cs 1 0)) t x) cs) (left 1 t x cs)) (sym (le-leb 3 (length cs) h))
+      ∙ ap (λ (u : Outcome). leftBy u cs) (o ∙ at)
+      ∙ ap (λ (b : Bool). pick b (leftBy (f (countsOf (getD cs 0 0) (getD cs 1 0)) t x) cs) (left 1 t x cs)) (sym (le-leb 3 (length cs) h))
 
 -- ---- make
 
@@ -76,6 +76,6 @@ module _ (what a b d : ℕ) (t x cs : List ℕ) where
       ap (λ (k : Bool). pick (true && not k) (left 2 t x cs) (built (anyMade what a b d) t x cs)) (sym e)
       ∙ ap (λ (k : Bool). pick (k && not (known what)) (left 2 t x cs) (built (anyMade what a b d) t x cs)) (sym (le-leb 3 (length cs) h))
 
-  pub makes-settled : (s : Counts) (made : Made) (t′ x′ cs′ : List ℕ) (r : ℕ) → 3 ≤ length cs → known what ≡ true → s ≡ countsOf (getD cs 0 0) (getD cs 1 0)
+  pub makes-left : (s : Counts) (made : Made) (t′ x′ cs′ : List ℕ) (r : ℕ) → 3 ≤ length cs → known what ≡ true → s ≡ countsOf (getD cs 0 0) (getD cs 1 0)
       → outcome made t′ x′ ≡ anyMade what a b d s t x → (r ≡ answerOf made) × (cs′ ≡ countsAfter made cs) → left r t′ x′ cs′ ≡ makes what a b d t x cs
-  makes-settled s made t′ x′ cs′ r h k is o e = built-settled (anyMade what a b d) t x cs s made t′ x′ cs′ r h is o e ∙ makes-known h k
+  makes-left s made t′ x′ cs′ r h k is o e = built-left (anyMade what a b d) t x cs s made t′ x′ cs′ r h is o e ∙ makes-known h k

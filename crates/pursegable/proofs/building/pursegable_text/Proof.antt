@@ -1,13 +1,13 @@
--- `text` meets its contract: too few words, or what the constructor answers.
+-- `pursegable_text` meets its contract: too few words, or what the constructor answers.
 -- Assumes nothing.
 use borrow.Author.Needs.{needs}
 use Rattle.build.specs.declared.Counts.{Counts}
 use Rattle.build.specs.Constructors.{textMade}
 use mathlib.Core.List.{List}
 use Prim.Native.Nat.{ℕ}
-use Rattle.numbered.proofs.Making.{built-short, built-settled}
-use Rattle.numbered.proofs.text.Statement.{statement}
-use Rattle.numbered.proofs.text.Tie as tie
+use Rattle.pursegable.proofs.Making.{built-short, built-left}
+use Rattle.pursegable.proofs.building.pursegable_text.Statement.{statement}
+use Rattle.pursegable.proofs.building.pursegable_text.Tie as tie
 
 returns : tie.Need-returns
 returns c = built-short _ _ _ _ (c .if1 .taken)
@@ -37,7 +37,7 @@ returns-2 c =
     let at11 = at8 .before .before .before in
     let at13 = at11 .before .before in
     let start = at13 .before .before .before .before .before in
-    built-settled
+    built-left
     (λ (s : Counts) (t x : List ℕ). textMade s t x (start .args .bytes .now) (start .args .columns))
     _
     _
@@ -53,8 +53,8 @@ returns-2 c =
     (at8 .text .ensures)
     (at2 .settle .ensures)
 
-pub text-spec : {M : Type 1} → statement M
-text-spec =
+pub pursegable-text-spec : {M : Type 1} → statement M
+pursegable-text-spec =
     tie.close
     (tie.spec
     returns

@@ -1,10 +1,10 @@
 -- `reading` meets its contract: each number has its constructor.
 -- Assumes nothing.
 use borrow.Author.Needs.{needs}
-use Rattle.numbered.specs.Building.{readingMade}
-use Rattle.numbered.proofs.Making.{reading-at, reading-rest}
-use Rattle.numbered.proofs.constructors.reading.Statement.{statement}
-use Rattle.numbered.proofs.constructors.reading.Tie as tie
+use Rattle.pursegable.specs.Building.{readingMade}
+use Rattle.pursegable.proofs.Making.{reading-at, reading-rest}
+use Rattle.pursegable.proofs.constructors.reading.Statement.{statement}
+use Rattle.pursegable.proofs.constructors.reading.Tie as tie
 
 nil-requires : tie.Need-nil-requires
 nil-requires c κs = search needs

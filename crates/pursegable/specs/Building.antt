@@ -33,13 +33,13 @@ abbrev pub countsAfter : Made → List ℕ → List ℕ
 countsAfter (Node c n) counts = c .nodes ∷ c .bytes ∷ n .0 ∷ drop 3 counts
 countsAfter (Refused why) counts = counts
 
-abbrev pub settled : Outcome → List ℕ → Left
-settled o counts = left (answerOf (o .made)) (o .table) (o .text) (countsAfter (o .made) counts)
+abbrev pub leftBy : Outcome → List ℕ → Left
+leftBy o counts = left (answerOf (o .made)) (o .table) (o .text) (countsAfter (o .made) counts)
 
 -- fewer than three words are answer 1
 unfoldable pub built : (Counts → List ℕ → List ℕ → Outcome) → List ℕ → List ℕ → List ℕ → Left
 built f table text counts =
-    pick (leb 3 (length counts)) (settled (f (countsOf (getD counts 0 0) (getD counts 1 0)) table text) counts) (left 1 table text counts)
+    pick (leb 3 (length counts)) (leftBy (f (countsOf (getD counts 0 0) (getD counts 1 0)) table text) counts) (left 1 table text counts)
 
 -- ---- what `make` makes: a kind's number for its constructor, and numbers after the kinds' for the composed ones
 

@@ -8,10 +8,10 @@ use Prim.Native.Nat.{ℕ, _-_, _≤_}
 use lib.ListN.{length, take, length-set}
 use lib.Seq.{take-all}
 use mathlib.Core.List.{List}
-use Rattle.numbered.specs.Building.{flagsOf}
-use Rattle.numbered.proofs.Flags.{flags-more}
-use Rattle.numbered.proofs.set_flags.Statement.{statement}
-use Rattle.numbered.proofs.set_flags.Tie as tie
+use Rattle.pursegable.specs.Building.{flagsOf}
+use Rattle.pursegable.proofs.Flags.{flags-more}
+use Rattle.pursegable.proofs.building.set_flags.Statement.{statement}
+use Rattle.pursegable.proofs.building.set_flags.Tie as tie
 
 abbrev Inv-loop : tie.InvT-loop
 Inv-loop bytes flags₀ i₀ flags i = (i ≤ length bytes) × (take i flags ≡ flagsOf (take i bytes)) × (length flags ≡ length flags₀)

@@ -17,8 +17,8 @@ use Rattle.build.specs.declared.Made.the-variants.{Refused}
 use Rattle.block.specs.declared.Block.{Block}
 use Rattle.block.specs.Block.{sizesRight, formatMade}
 use Rattle.block.proofs.Alternatives.{format-sizes}
-use Rattle.numbered.specs.Building.{left, answerOf, countsAfter, built, flagsOf}
-use Rattle.numbered.proofs.Making.{built-settled}
+use Rattle.pursegable.specs.Building.{left, answerOf, countsAfter, built, flagsOf}
+use Rattle.pursegable.proofs.Making.{built-left}
 
 pub length-flags : (bs : List ℕ) → length (flagsOf bs) ≡ length bs
 unfolding flagsOf
@@ -52,12 +52,12 @@ flags-many prefixes suffixes flags h = go (leb prefixes 8) refl where
 module _ (b : Block) (prefixes suffixes nests t x cs : List ℕ) where
   pub block-many : 3 ≤ length cs → 8 < length nests → left 1 t x cs ≡ built (λ c t x. formatMade c t x b prefixes suffixes (flagsOf nests)) t x cs
   block-many h k =
-      built-settled _ t x cs _ (Refused Sizes) t x cs 1 h refl
+      built-left _ t x cs _ (Refused Sizes) t x cs 1 h refl
       (format-sizes _ t x b prefixes suffixes (flagsOf nests) (flags-many (length prefixes) (length suffixes) (length (flagsOf nests)) (rw (length-flags nests) k)))
       (refl, refl)
 
-  pub block-settled : (s : Counts) (made : Made) (t′ x′ cs′ : List ℕ) (r : ℕ) (flags : List Bool) → 3 ≤ length cs → s ≡ countsOf (getD cs 0 0) (getD cs 1 0) → flags ≡ flagsOf nests
+  pub block-left : (s : Counts) (made : Made) (t′ x′ cs′ : List ℕ) (r : ℕ) (flags : List Bool) → 3 ≤ length cs → s ≡ countsOf (getD cs 0 0) (getD cs 1 0) → flags ≡ flagsOf nests
       → outcome made t′ x′ ≡ formatMade s t x b prefixes suffixes flags → (r ≡ answerOf made) × (cs′ ≡ countsAfter made cs)
       → left r t′ x′ cs′ ≡ built (λ c t x. formatMade c t x b prefixes suffixes (flagsOf nests)) t x cs
-  block-settled s made t′ x′ cs′ r flags h is e o k =
-      built-settled _ t x cs s made t′ x′ cs′ r h is (o ∙ ap (λ (q : List Bool). formatMade s t x b prefixes suffixes q) e) k
+  block-left s made t′ x′ cs′ r flags h is e o k =
+      built-left _ t x cs s made t′ x′ cs′ r h is (o ∙ ap (λ (q : List Bool). formatMade s t x b prefixes suffixes q) e) k

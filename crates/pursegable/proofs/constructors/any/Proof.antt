@@ -1,10 +1,10 @@
 -- `any` meets its contract: each number has its constructor.
 -- Assumes nothing.
 use borrow.Author.Needs.{needs}
-use Rattle.numbered.specs.Building.{anyMade}
-use Rattle.numbered.proofs.Making.{any-at, any-rest}
-use Rattle.numbered.proofs.constructors.any.Statement.{statement}
-use Rattle.numbered.proofs.constructors.any.Tie as tie
+use Rattle.pursegable.specs.Building.{anyMade}
+use Rattle.pursegable.proofs.Making.{any-at, any-rest}
+use Rattle.pursegable.proofs.constructors.any.Statement.{statement}
+use Rattle.pursegable.proofs.constructors.any.Tie as tie
 
 space-requires : tie.Need-space-requires
 space-requires c κs = search needs
