@@ -7,12 +7,12 @@
 --     sheet-is, label-is   the whole sheet and the row label are the layout at 42 columns and 1,000,000 steps
 -- Returned has `unique`, and 1 and 3 for every form that events are lent in.
 -- Assumes nothing.
-use mathlib.Core.Path.{_≡_, refl, sym, ap, _∙_}
+use mathlib.Core.Path.{_≡_, refl, ap, _∙_}
 use Prim.Native.Nat.{ℕ, _*_, _≤_, _<_}
 use native.Mathlib.Omega.{arith}
 use mathlib.Core.Bool.{Bool, true, false}
 use mathlib.Core.List.{List, []}
-use lib.ListN.{length, take}
+use lib.ListN.{length}
 use borrow.Author.Tests.{le-leb}
 use Rattle.table.specs.Fault.{Fault, check}
 use Rattle.table.specs.Valid.{Valid}

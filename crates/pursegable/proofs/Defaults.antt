@@ -20,8 +20,8 @@ use ghost.Atoms.{Atoms}
 use contract.Monad.{Fun, fact}
 use sound.WpLaws.{FmC, fmOf, WpFn-mono}
 use types.Kit.{Given, ‵, raw, _⊛_, ⋆, some, later, _$_, _∵_, !, qed, by, move, keep, use1, use3, split, join, pick as take-up, rewrite, fsplit, fjoin, feqL, suffices, frame, await, done}
-use types.Part.{agg, whole, sub, look-in}
-use types.Run.{look, init, forget, stop, hop, fld, from, load, lit, addr, and-then, no-more, assigns, land, returns, enter, alloc1, alloc0, params1, pass1, pass0, free1, free0}
+use types.Part.{agg}
+use types.Run.{look, init, forget, lit, and-then, no-more, assigns, land, returns, enter, alloc1, alloc0, params1, pass1, pass0, free1, free0}
 use denote.Exit.{yes}
 use denote.RattleType.{owns}
 use denote.Laws.{Is, shows}
@@ -204,20 +204,20 @@ module _ {M : Type 1} (𝓤 : URA M) (H : Heap 𝓤) (A : Atoms 𝓤) (W : Given
         enter ! C Λ passing (st ∷ sx ∷ so ∷ se ∷ sk ∷ sr ∷ []) _ $
         alloc1 ! (λ l₀. alloc1 ! (λ l₁. alloc1 ! (λ l₂. alloc1 ! (λ l₃. alloc1 ! (λ l₄. alloc1 ! (λ l₅. alloc1 ! (λ l₆. alloc1 ! (λ l₇. alloc1 ! (λ l₈. alloc1 ! (λ l₉. alloc1 ! (λ l₁₀. alloc1 ! (λ l₁₁. alloc1 ! (λ l₁₂. alloc1 ! (λ l₁₃. alloc1 ! (λ l₁₄. alloc0 ! $ params1 ! $
         pass1 ! (init ! 26 refl (tt, (tt, (record { fits = gt .0 }, tt)))) $ pass1 ! (init ! 24 refl (tt, (tt, (record { fits = gx .0 }, tt)))) $ pass1 ! (init ! 22 refl (tt, (tt, (record { fits = go .0 }, tt)))) $ pass1 ! (init ! 20 refl (tt, (tt, (record { fits = gy .0 }, tt)))) $ pass1 ! (init ! 18 refl (tt, (tt, (record { fits = gk .0 }, tt)))) $ pass1 ! (init ! 16 refl (tt, (tt, (record { fits = gr .0 }, tt)))) $ pass0 ! $
-        assigns ! (addr ! (from ! (fld ! refl (hop ! (look-in ! 22 (sub ! 0 refl (whole !))) (stop !))))) (from ! (stop !)) (init ! 14 refl (tt, tt)) $ assigns ! (agg ! (and-then ! (load ! (from ! (stop !)) (look ! 14 refl)) (and-then ! (load ! (from ! (fld ! refl (stop !))) (look-in ! 22 (sub ! 1 refl (whole !)))) (no-more !)))) (from ! (stop !)) (init ! 12 refl (tt, (tt, (record { fits = go .0 }, tt)))) $
-        assigns ! (addr ! (from ! (fld ! refl (hop ! (look-in ! 20 (sub ! 0 refl (whole !))) (stop !))))) (from ! (stop !)) (init ! 10 refl (tt, tt)) $ assigns ! (agg ! (and-then ! (load ! (from ! (stop !)) (look ! 10 refl)) (and-then ! (load ! (from ! (fld ! refl (stop !))) (look-in ! 20 (sub ! 1 refl (whole !)))) (no-more !)))) (from ! (stop !)) (init ! 8 refl (tt, (tt, (record { fits = gy .0 }, tt)))) $
-        assigns ! (addr ! (from ! (fld ! refl (hop ! (look-in ! 18 (sub ! 0 refl (whole !))) (stop !))))) (from ! (stop !)) (init ! 6 refl (tt, tt)) $ assigns ! (agg ! (and-then ! (load ! (from ! (stop !)) (look ! 6 refl)) (and-then ! (load ! (from ! (fld ! refl (stop !))) (look-in ! 18 (sub ! 1 refl (whole !)))) (no-more !)))) (from ! (stop !)) (init ! 4 refl (tt, (tt, (record { fits = gk .0 }, tt)))) $
-        assigns ! (addr ! (from ! (fld ! refl (hop ! (look-in ! 16 (sub ! 0 refl (whole !))) (stop !))))) (from ! (stop !)) (init ! 2 refl (tt, tt)) $ assigns ! (agg ! (and-then ! (load ! (from ! (stop !)) (look ! 2 refl)) (and-then ! (load ! (from ! (fld ! refl (stop !))) (look-in ! 16 (sub ! 1 refl (whole !)))) (no-more !)))) (from ! (stop !)) (init ! 0 refl (tt, (tt, (record { fits = gr .0 }, tt)))) $
+        assigns ! (slice-start ! 22 refl refl) (here !) (init ! 14 refl (tt, tt)) $ assigns ! (agg ! (and-then ! (value ! 14 refl) (and-then ! (slice-length ! 22 refl refl) (no-more !)))) (here !) (init ! 12 refl (tt, (tt, (record { fits = go .0 }, tt)))) $
+        assigns ! (slice-start ! 20 refl refl) (here !) (init ! 10 refl (tt, tt)) $ assigns ! (agg ! (and-then ! (value ! 10 refl) (and-then ! (slice-length ! 20 refl refl) (no-more !)))) (here !) (init ! 8 refl (tt, (tt, (record { fits = gy .0 }, tt)))) $
+        assigns ! (slice-start ! 18 refl refl) (here !) (init ! 6 refl (tt, tt)) $ assigns ! (agg ! (and-then ! (value ! 6 refl) (and-then ! (slice-length ! 18 refl refl) (no-more !)))) (here !) (init ! 4 refl (tt, (tt, (record { fits = gk .0 }, tt)))) $
+        assigns ! (slice-start ! 16 refl refl) (here !) (init ! 2 refl (tt, tt)) $ assigns ! (agg ! (and-then ! (value ! 2 refl) (and-then ! (slice-length ! 16 refl refl) (no-more !)))) (here !) (init ! 0 refl (tt, (tt, (record { fits = gr .0 }, tt)))) $
         -- what the parameters own, and the six tokens
         move ! (31 ∷ []) $ fsplit ! $ move ! (1 ∷ []) $ fsplit ! $ move ! (1 ∷ []) $ fsplit ! $ move ! (1 ∷ []) $ fsplit ! $ move ! (1 ∷ []) $ fsplit ! $ move ! (1 ∷ []) $ fsplit ! $ move ! (37 ∷ []) $ split ! $ move ! (1 ∷ []) $ split ! $ move ! (1 ∷ []) $ split ! $ move ! (1 ∷ []) $ split ! $ move ! (1 ∷ []) $ split ! $ move ! (1 ∷ []) $ split ! $
         -- `table` and `text` are Copy: one copy of each goes to the callee
         move ! (13 ∷ []) $ use1 W (‵ OwnT ⊛ ‵ OwnT) (shr-slice-copy 𝓤 H A W (named 0) κ₀ u32 .twice xt (st ∷ [])) $ split ! $ move ! (14 ∷ []) $ use1 W (‵ OwnX ⊛ ‵ OwnX) (shr-slice-copy 𝓤 H A W (named 1) κ₁ u8 .twice xx (sx ∷ [])) $ split ! $
         move ! (4 ∷ 5 ∷ []) $ join ! $ move ! (5 ∷ 0 ∷ []) $ join ! $ move ! (5 ∷ 0 ∷ []) $ join ! $ move ! (5 ∷ 0 ∷ []) $ join ! $ move ! (5 ∷ 0 ∷ []) $ join ! $ move ! (5 ∷ 0 ∷ []) $ join ! $ move ! (3 ∷ 1 ∷ []) $ join ! $ move ! (6 ∷ 4 ∷ []) $ join ! $ move ! (6 ∷ 0 ∷ []) $ join ! $ move ! (6 ∷ 0 ∷ []) $ join ! $ move ! (2 ∷ 1 ∷ 0 ∷ []) $ use3 W (raw (Layout 𝓤 H A mem run .pre to-layout)) goes-layout $
         -- `pursegable_layout`
-        calls-at ! fm (Layout 𝓤 H A mem run) known to-layout (and-then ! (load ! (from ! (stop !)) (look ! 30 refl)) (and-then ! (load ! (from ! (stop !)) (look ! 28 refl)) (and-then ! (lit ! tt) (and-then ! (big-lit ! (record { fits = lit< tt })) (and-then ! (load ! (from ! (stop !)) (look ! 16 refl)) (and-then ! (load ! (from ! (stop !)) (look ! 12 refl)) (and-then ! (load ! (from ! (stop !)) (look ! 8 refl)) (and-then ! (load ! (from ! (stop !)) (look ! 4 refl)) (no-more !))))))))) (λ w.
+        calls-at ! fm (Layout 𝓤 H A mem run) known to-layout (and-then ! (value ! 30 refl) (and-then ! (value ! 28 refl) (and-then ! (lit ! tt) (and-then ! (big-lit ! (record { fits = lit< tt })) (and-then ! (value ! 16 refl) (and-then ! (value ! 12 refl) (and-then ! (value ! 8 refl) (and-then ! (value ! 4 refl) (no-more !))))))))) (λ w.
         use1 W (later (some (λ (r : ℕ). ((‵ (flft κ₀ q₀) ⊛ ‵ (flft κ₁ q₁) ⊛ ‵ (flft κ₂ q₂) ⊛ ‵ (flft κ₃ q₃) ⊛ ‵ (flft κ₄ q₄) ⊛ ‵ (flft κ₅ q₅) ⊛ ‵ ftrue) ⊛ ‵ (u32 .own r (w ∷ []))) ⊛ raw (ensured 𝓤 H A lay.ended (lay.clauses 𝓤 H A mem run) (κ₀, (κ₁, (κ₂, (κ₃, (κ₄, (κ₅, tt)))))) as-layout tt r)))) (id⊢ 𝓤 _) $ await ! tt $ take-up ! (λ r. split ! $ move ! (1 ∷ []) $ use1 W (some (λ (zs : Lasts). ‵ (lasts lay.ended (κ₀, (κ₁, (κ₂, (κ₃, (κ₄, (κ₅, tt)))))) as-layout zs) ⊛ raw (fact 𝓤 (Promised r (o-of zs) (e-of zs) (k-of zs) (r-of zs))))) (id⊢ 𝓤 _) $ take-up ! (λ zs.
         split ! $ move ! (1 ∷ []) $ heard ! (Promised r (o-of zs) (e-of zs) (k-of zs) (r-of zs)) (λ promised. fsplit ! $ move ! (1 ∷ []) $ fsplit ! $ move ! (1 ∷ []) $ fsplit ! $ move ! (1 ∷ []) $ fsplit ! $ move ! (1 ∷ []) $ fsplit ! $ move ! (1 ∷ []) $ fsplit ! $ move ! (1 ∷ []) $ fsplit ! $ move ! (1 ∷ []) $ fsplit ! $ move ! (4 ∷ []) $ fsplit ! $ move ! (1 ∷ []) $ feqL ! (λ lo. move ! (4 ∷ []) $ fsplit ! $ move ! (1 ∷ []) $ feqL ! (λ le. move ! (4 ∷ []) $ fsplit ! $ move ! (1 ∷ []) $ feqL ! (λ lk. move ! (3 ∷ []) $ fsplit ! $ move ! (1 ∷ []) $ feqL ! (λ lr. move ! (9 ∷ []) $ split ! $ move ! (1 ∷ []) $ peeks ! u32 (Is u32) (shows 𝓤 H A u32) r (w ∷ []) (λ is.
-        land ! (from ! (stop !)) (init ! 42 refl (uint-lawful 𝓤 H A W w32 .typed r _ is .0)) $ rewrite ! 42 (λ (u : Val). ‵ (fat fullShare (tyInt w32) l₀ 0 u)) (ap only (uint-tells w32 r _ is)) refl $
+        land ! (here !) (init ! 42 refl (uint-lawful 𝓤 H A W w32 .typed r _ is .0)) $ rewrite ! 42 (λ (u : Val). ‵ (fat fullShare (tyInt w32) l₀ 0 u)) (ap only (uint-tells w32 r _ is)) refl $
         -- the end
         returns ! (look ! 42 refl) $ forget ! 14 refl $ forget ! 16 refl $ forget ! 18 refl $ forget ! 20 refl $ forget ! 22 refl $ forget ! 24 refl $ forget ! 26 refl $ forget ! 28 refl $ forget ! 30 refl $ forget ! 32 refl $ forget ! 34 refl $ forget ! 36 refl $ forget ! 38 refl $ forget ! 40 refl $ forget ! 42 refl $
         move ! (42 ∷ 43 ∷ []) $ free1 ! $ move ! (40 ∷ 41 ∷ []) $ free1 ! $ move ! (38 ∷ 39 ∷ []) $ free1 ! $ move ! (36 ∷ 37 ∷ []) $ free1 ! $ move ! (34 ∷ 35 ∷ []) $ free1 ! $ move ! (32 ∷ 33 ∷ []) $ free1 ! $ move ! (30 ∷ 31 ∷ []) $ free1 ! $ move ! (28 ∷ 29 ∷ []) $ free1 ! $ move ! (26 ∷ 27 ∷ []) $ free1 ! $ move ! (24 ∷ 25 ∷ []) $ free1 ! $ move ! (22 ∷ 23 ∷ []) $ free1 ! $ move ! (20 ∷ 21 ∷ []) $ free1 ! $ move ! (18 ∷ 19 ∷ []) $ free1 ! $ move ! (16 ∷ 17 ∷ []) $ free1 ! $ move ! (14 ∷ 15 ∷ []) $ free1 ! $ free0 ! $

@@ -9,7 +9,7 @@ use Prim.Native.Nat.{ℕ, zero, suc, _/_, _≤_, zero-le}
 use native.Mathlib.Omega.{arith}
 use mathlib.Core.Path.{_≡_, refl, sym, ap, _∙_}
 use mathlib.Core.Bool.{Bool, true, false}
-use mathlib.Core.List.{List, []}
+use mathlib.Core.List.{List}
 use lib.Dec.{leb}
 use lib.ListN.{length, getD, replicate}
 use Rattle.choice.specs.Pick.{pick}
@@ -23,7 +23,7 @@ use Rattle.layout.proofs.Demands.{words-lawful}
 use Rattle.events.specs.declared.Event.{Event}
 use Rattle.events.specs.Called.{asRecords}
 use Rattle.events.proofs.Demands.{records-lawful}
-use Rattle.pursegable.specs.Exported.{reportWords, five, told, answering, Exported, reportOf}
+use Rattle.pursegable.specs.Exported.{reportWords, five, answering, Exported, reportOf}
 use Rattle.pursegable.specs.Building.{Left, left}
 
 -- ---- one outcome

@@ -21,7 +21,7 @@ use contract.Running.{givenOf, tables, tablesOf}
 use sound.WpLaws.{FmC, fmOf, WpFn-mono}
 use types.Kit.{Given, ‵, raw, _⊛_, ⋆, some, later, _$_, _∵_, !, qed, by, move, keep, use1, use2, use3, split, join, pick as take-up, rewrite, fsplit, fjoin, feqL, suffices, frame, await, done}
 use types.Part.{agg, whole, sub, look-in}
-use types.Run.{look, init, forget, stop, hop, fld, from, load, addr, of-opd, and-then, no-more, assigns, land, returns, enter, alloc1, alloc0, params1, pass1, pass0, free1, free0}
+use types.Run.{look, init, forget, stop, fld, from, load, of-opd, and-then, no-more, assigns, land, returns, enter, alloc1, alloc0, params1, pass1, pass0, free1, free0}
 use denote.Exit.{yes}
 use denote.RattleType.{owns}
 use denote.Laws.{Is, shows}
@@ -224,35 +224,35 @@ module _ {M : Type 1} (𝓤 : URA M) (H : Heap 𝓤) (A : Atoms 𝓤) (W : Given
         enter ! C Λ code.function (st ∷ sx ∷ vint w32 wi ∷ vint w32 li ∷ so ∷ se ∷ sk ∷ sr ∷ []) _ $
         alloc1 ! (λ l₀. alloc1 ! (λ l₁. alloc1 ! (λ l₂. alloc1 ! (λ l₃. alloc1 ! (λ l₄. alloc1 ! (λ l₅. alloc1 ! (λ l₆. alloc1 ! (λ l₇. alloc1 ! (λ l₈. alloc1 ! (λ l₉. alloc1 ! (λ l₁₀. alloc1 ! (λ l₁₁. alloc1 ! (λ l₁₂. alloc1 ! (λ l₁₃. alloc1 ! (λ l₁₄. alloc1 ! (λ l₁₅. alloc1 ! (λ l₁₆. alloc1 ! (λ l₁₇. alloc1 ! (λ l₁₈. alloc1 ! (λ l₁₉. alloc1 ! (λ l₂₀. alloc0 ! $ params1 ! $
         pass1 ! (init ! 38 refl (tt, (tt, (record { fits = gt .0 }, tt)))) $ pass1 ! (init ! 36 refl (tt, (tt, (record { fits = gx .0 }, tt)))) $ pass1 ! (init ! 34 refl (tt, record { fits = gwi })) $ pass1 ! (init ! 32 refl (tt, record { fits = gli })) $ pass1 ! (init ! 30 refl (tt, (tt, (record { fits = go .0 }, tt)))) $ pass1 ! (init ! 28 refl (tt, (tt, (record { fits = gy .0 }, tt)))) $ pass1 ! (init ! 26 refl (tt, (tt, (record { fits = gk .0 }, tt)))) $ pass1 ! (init ! 24 refl (tt, (tt, (record { fits = gr .0 }, tt)))) $ pass0 ! $
-        assigns ! (of-opd ! (load ! (from ! (fld ! refl (stop !))) (look-in ! 24 (sub ! 1 refl (whole !))))) (from ! (stop !)) (init ! 22 refl (tt, record { fits = gr .0 })) $
+        assigns ! (of-opd ! (slice-length ! 24 refl refl)) (here !) (init ! 22 refl (tt, record { fits = gr .0 })) $
         -- `limit_for`
-        nothing ! $ use1 W (raw (LimitFor 𝓤 H A mem run .pre to-limit)) goes-limit $ calls-at ! fm (LimitFor 𝓤 H A mem run) known-limit to-limit (and-then ! (load ! (from ! (stop !)) (look ! 33 refl)) (and-then ! (load ! (from ! (stop !)) (look ! 23 refl)) (no-more !))) (λ w.
+        nothing ! $ use1 W (raw (LimitFor 𝓤 H A mem run .pre to-limit)) goes-limit $ calls-at ! fm (LimitFor 𝓤 H A mem run) known-limit to-limit (and-then ! (value ! 33 refl) (and-then ! (value ! 23 refl) (no-more !))) (λ w.
         use1 W (later (some (λ (l : ℕ). (‵ ftrue ⊛ ‵ (u32 .own l (w ∷ []))) ⊛ raw (ensured 𝓤 H A limit.ended (limit.clauses 𝓤 H A mem run) tt (li, (n, tt)) tt l)))) (id⊢ 𝓤 _) $ await ! tt $ take-up ! (λ l. split ! $ move ! (1 ∷ []) $ use1 W (some (λ (zs : Unit {0} × (Unit {0} × Unit {0})). ‵ (lasts limit.ended tt (li, (n, tt)) zs) ⊛ raw (fact 𝓤 (l ≡ limitFor li n)))) (id⊢ 𝓤 _) $ take-up ! (λ _.
         split ! $ move ! (1 ∷ []) $ heard ! (l ≡ limitFor li n) (λ is-limit. move ! (1 ∷ []) $ split ! $ move ! (1 ∷ []) $ peeks ! u32 (Is u32) (shows 𝓤 H A u32) l (w ∷ []) (λ il.
-        land ! (from ! (stop !)) (init ! 23 refl (uint-lawful 𝓤 H A W w32 .typed l _ il .0)) $ rewrite ! 23 (λ (u : Val). ‵ (fat fullShare (tyInt w32) l₁₀ 0 u)) (ap only (uint-tells w32 l _ il)) refl $
-        assigns ! (addr ! (from ! (fld ! refl (hop ! (look-in ! 33 (sub ! 0 refl (whole !))) (stop !))))) (from ! (stop !)) (init ! 19 refl (tt, tt)) $ assigns ! (agg ! (and-then ! (load ! (from ! (stop !)) (look ! 19 refl)) (and-then ! (load ! (from ! (fld ! refl (stop !))) (look-in ! 33 (sub ! 1 refl (whole !)))) (no-more !)))) (from ! (stop !)) (init ! 17 refl (tt, (tt, (record { fits = go .0 }, tt)))) $
-        assigns ! (addr ! (from ! (fld ! refl (hop ! (look-in ! 31 (sub ! 0 refl (whole !))) (stop !))))) (from ! (stop !)) (init ! 15 refl (tt, tt)) $ assigns ! (agg ! (and-then ! (load ! (from ! (stop !)) (look ! 15 refl)) (and-then ! (load ! (from ! (fld ! refl (stop !))) (look-in ! 31 (sub ! 1 refl (whole !)))) (no-more !)))) (from ! (stop !)) (init ! 13 refl (tt, (tt, (record { fits = gy .0 }, tt)))) $
-        assigns ! (addr ! (from ! (fld ! refl (hop ! (look-in ! 29 (sub ! 0 refl (whole !))) (stop !))))) (from ! (stop !)) (init ! 11 refl (tt, tt)) $ assigns ! (agg ! (and-then ! (load ! (from ! (stop !)) (look ! 11 refl)) (and-then ! (load ! (from ! (fld ! refl (stop !))) (look-in ! 29 (sub ! 1 refl (whole !)))) (no-more !)))) (from ! (stop !)) (init ! 9 refl (tt, (tt, (record { fits = gk .0 }, tt)))) $
+        land ! (here !) (init ! 23 refl (uint-lawful 𝓤 H A W w32 .typed l _ il .0)) $ rewrite ! 23 (λ (u : Val). ‵ (fat fullShare (tyInt w32) l₁₀ 0 u)) (ap only (uint-tells w32 l _ il)) refl $
+        assigns ! (slice-start ! 33 refl refl) (here !) (init ! 19 refl (tt, tt)) $ assigns ! (agg ! (and-then ! (value ! 19 refl) (and-then ! (slice-length ! 33 refl refl) (no-more !)))) (here !) (init ! 17 refl (tt, (tt, (record { fits = go .0 }, tt)))) $
+        assigns ! (slice-start ! 31 refl refl) (here !) (init ! 15 refl (tt, tt)) $ assigns ! (agg ! (and-then ! (value ! 15 refl) (and-then ! (slice-length ! 31 refl refl) (no-more !)))) (here !) (init ! 13 refl (tt, (tt, (record { fits = gy .0 }, tt)))) $
+        assigns ! (slice-start ! 29 refl refl) (here !) (init ! 11 refl (tt, tt)) $ assigns ! (agg ! (and-then ! (value ! 11 refl) (and-then ! (slice-length ! 29 refl refl) (no-more !)))) (here !) (init ! 9 refl (tt, (tt, (record { fits = gk .0 }, tt)))) $
         -- what the parameters own, and the six tokens
         move ! (46 ∷ []) $ fsplit ! $ move ! (1 ∷ []) $ fsplit ! $ move ! (1 ∷ []) $ fsplit ! $ move ! (1 ∷ []) $ fsplit ! $ move ! (1 ∷ []) $ fsplit ! $ move ! (1 ∷ []) $ fsplit ! $ move ! (1 ∷ []) $ fsplit ! $ move ! (1 ∷ []) $ fsplit ! $ move ! (54 ∷ []) $ split ! $ move ! (1 ∷ []) $ split ! $ move ! (1 ∷ []) $ split ! $ move ! (1 ∷ []) $ split ! $ move ! (1 ∷ []) $ split ! $ move ! (1 ∷ []) $ split ! $
         -- `table` and `text` are Copy: one copy of each goes to the callee
         move ! (15 ∷ []) $ use1 W (‵ OwnT ⊛ ‵ OwnT) (shr-slice-copy 𝓤 H A W (named 0) κ₀ u32 .twice xt (st ∷ [])) $ split ! $ move ! (16 ∷ []) $ use1 W (‵ OwnX ⊛ ‵ OwnX) (shr-slice-copy 𝓤 H A W (named 1) κ₁ u8 .twice xx (sx ∷ [])) $ split ! $
         move ! (6 ∷ 5 ∷ []) $ join ! $ move ! (6 ∷ 0 ∷ []) $ join ! $ move ! (6 ∷ 0 ∷ []) $ join ! $ move ! (6 ∷ 0 ∷ []) $ join ! $ move ! (6 ∷ 0 ∷ []) $ join ! $ move ! (3 ∷ 1 ∷ []) $ join ! $ move ! (8 ∷ 7 ∷ []) $ join ! $ move ! (8 ∷ 0 ∷ []) $ join ! $ move ! (2 ∷ 1 ∷ 0 ∷ []) $ use3 W (raw (Layout 𝓤 H A mem run .pre (to-layout l))) (goes-layout l (il .1)) $
         -- `events::layout`
-        calls-at ! fm (Layout 𝓤 H A mem run) known-layout (to-layout l) (and-then ! (load ! (from ! (stop !)) (look ! 49 refl)) (and-then ! (load ! (from ! (stop !)) (look ! 47 refl)) (and-then ! (load ! (from ! (stop !)) (look ! 45 refl)) (and-then ! (load ! (from ! (stop !)) (look ! 31 refl)) (and-then ! (load ! (from ! (stop !)) (look ! 25 refl)) (and-then ! (load ! (from ! (stop !)) (look ! 21 refl)) (and-then ! (load ! (from ! (stop !)) (look ! 17 refl)) (no-more !)))))))) (λ w₂.
+        calls-at ! fm (Layout 𝓤 H A mem run) known-layout (to-layout l) (and-then ! (value ! 49 refl) (and-then ! (value ! 47 refl) (and-then ! (value ! 45 refl) (and-then ! (value ! 31 refl) (and-then ! (value ! 25 refl) (and-then ! (value ! 21 refl) (and-then ! (value ! 17 refl) (no-more !)))))))) (λ w₂.
         use1 W (later (some (λ (r : Report). ((‵ (flft κ₀ q₀) ⊛ ‵ (flft κ₁ q₁) ⊛ ‵ (flft κ₂ q₂) ⊛ ‵ (flft κ₃ q₃) ⊛ ‵ (flft κ₄ q₄) ⊛ ‵ ftrue) ⊛ ‵ (D.the-row .own r (w₂ ∷ []))) ⊛ raw (ensured 𝓤 H A lay.ended (lay.clauses 𝓤 H A mem run) (κ₀, (κ₁, (κ₂, (κ₃, (κ₄, tt))))) (as-layout l) tt r)))) (id⊢ 𝓤 _) $ await ! tt $ take-up ! (λ r. split ! $ move ! (1 ∷ []) $ use1 W (some (λ (zs : Lasts). ‵ (lasts lay.ended (κ₀, (κ₁, (κ₂, (κ₃, (κ₄, tt))))) (as-layout l) zs) ⊛ raw (fact 𝓤 (Called (asks l) r (o-of zs) (e-of zs) (k-of zs))))) (id⊢ 𝓤 _) $ take-up ! (λ zs.
         split ! $ move ! (1 ∷ []) $ heard ! (Called (asks l) r (o-of zs) (e-of zs) (k-of zs)) (λ called. fsplit ! $ move ! (1 ∷ []) $ fsplit ! $ move ! (1 ∷ []) $ fsplit ! $ move ! (1 ∷ []) $ fsplit ! $ move ! (1 ∷ []) $ fsplit ! $ move ! (1 ∷ []) $ fsplit ! $ move ! (1 ∷ []) $ fsplit ! $ move ! (3 ∷ []) $ fsplit ! $ move ! (1 ∷ []) $ feqL ! (λ lo. move ! (3 ∷ []) $ fsplit ! $ move ! (1 ∷ []) $ feqL ! (λ le. move ! (2 ∷ []) $ fsplit ! $ move ! (1 ∷ []) $ feqL ! (λ lk. move ! (8 ∷ []) $ split ! $ move ! (1 ∷ []) $ peeks ! D.the-row (Is D.the-row) (shows 𝓤 H A D.the-row) r (w₂ ∷ []) (λ is′.
         let is : Is D.the-row r (mach r ∷ []) = subst (Is D.the-row r) (LL.tells D.the-type D′.the-laws r _ is′) is′ in
         let ga : r .answer < 2 ^ 32 = LL.owed D.the-type D′.the-laws r _ is .0 .1 in
-        land ! (from ! (stop !)) (init ! 38 refl (LL.lawful D.the-type D′.the-laws 𝓤 H A W .typed r _ is′ .0)) $ rewrite ! 38 (λ (u : Val). ‵ (fat fullShare D′.mir l₁₁ 0 u)) (ap only (LL.tells D.the-type D′.the-laws r _ is′)) refl $
-        assigns ! (addr ! (from ! (fld ! refl (hop ! (look-in ! 44 (sub ! 0 refl (whole !))) (stop !))))) (from ! (stop !)) (init ! 22 refl (tt, tt)) $ assigns ! (agg ! (and-then ! (load ! (from ! (stop !)) (look ! 22 refl)) (and-then ! (load ! (from ! (fld ! refl (stop !))) (look-in ! 44 (sub ! 1 refl (whole !)))) (no-more !)))) (from ! (stop !)) (init ! 20 refl (tt, (tt, (record { fits = gr .0 }, tt)))) $
+        land ! (here !) (init ! 38 refl (LL.lawful D.the-type D′.the-laws 𝓤 H A W .typed r _ is′ .0)) $ rewrite ! 38 (λ (u : Val). ‵ (fat fullShare D′.mir l₁₁ 0 u)) (ap only (LL.tells D.the-type D′.the-laws r _ is′)) refl $
+        assigns ! (slice-start ! 44 refl refl) (here !) (init ! 22 refl (tt, tt)) $ assigns ! (agg ! (and-then ! (value ! 22 refl) (and-then ! (slice-length ! 44 refl refl) (no-more !)))) (here !) (init ! 20 refl (tt, (tt, (record { fits = gr .0 }, tt)))) $
         -- `tell`: the last of the tokens goes with the report
-        move ! (1 ∷ []) $ split ! $ move ! (1 ∷ []) $ split ! $ move ! (1 ∷ []) $ split ! $ move ! (1 ∷ []) $ split ! $ move ! (1 ∷ []) $ split ! $ move ! (17 ∷ 1 ∷ []) $ join ! $ move ! (0 ∷ 17 ∷ []) $ use2 W (raw (Tell 𝓤 H A mem run .pre (to-tell r))) (goes-tell r is) $ calls-at ! fm (Tell 𝓤 H A mem run) known-tell (to-tell r) (and-then ! (load ! (from ! (stop !)) (look ! 41 refl)) (and-then ! (load ! (from ! (stop !)) (look ! 23 refl)) (no-more !))) (λ w₃.
+        move ! (1 ∷ []) $ split ! $ move ! (1 ∷ []) $ split ! $ move ! (1 ∷ []) $ split ! $ move ! (1 ∷ []) $ split ! $ move ! (1 ∷ []) $ split ! $ move ! (17 ∷ 1 ∷ []) $ join ! $ move ! (0 ∷ 17 ∷ []) $ use2 W (raw (Tell 𝓤 H A mem run .pre (to-tell r))) (goes-tell r is) $ calls-at ! fm (Tell 𝓤 H A mem run) known-tell (to-tell r) (and-then ! (value ! 41 refl) (and-then ! (value ! 23 refl) (no-more !))) (λ w₃.
         use1 W (later (some (λ (u : Unit {0}). ((‵ (flft κ₅ q₅) ⊛ ‵ ftrue) ⊛ ‵ (unit .own u (w₃ ∷ []))) ⊛ raw (ensured 𝓤 H A tell.ended (tell.clauses 𝓤 H A mem run) (κ₅, tt) (r, (xr, tt)) tt u)))) (id⊢ 𝓤 _) $ await ! tt $ take-up ! (λ u. split ! $ move ! (1 ∷ []) $ use1 W (some (λ (ts : Unit {0} × (List ℕ × Unit {0})). ‵ (lasts tell.ended (κ₅, tt) (r, (xr, tt)) ts) ⊛ raw (fact 𝓤 (ts .1 .0 ≡ told (fiveOf r) n)))) (id⊢ 𝓤 _) $ take-up ! (λ ts.
         split ! $ move ! (1 ∷ []) $ heard ! (ts .1 .0 ≡ told (fiveOf r) n) (λ is-told. fsplit ! $ move ! (1 ∷ []) $ fsplit ! $ move ! (0 ∷ []) $ fsplit ! $ move ! (1 ∷ []) $ feqL ! (λ lr. move ! (3 ∷ []) $ split ! $ move ! (1 ∷ []) $ feqL ! (λ v.
-        land ! (from ! (stop !)) (init ! 30 refl (subst (λ (y : Val). Holds (hasTy tyUnit y) × WT y) (sym (ap only v)) (tt, tt))) $ move ! (0 ∷ []) $ split ! $
+        land ! (here !) (init ! 30 refl (subst (λ (y : Val). Holds (hasTy tyUnit y) × WT y) (sym (ap only v)) (tt, tt))) $ move ! (0 ∷ []) $ split ! $
         -- the end
-        assigns ! (of-opd ! (load ! (from ! (fld ! refl (stop !))) (look-in ! 45 (sub ! 0 refl (whole !))))) (from ! (stop !)) (init ! 67 refl (tt, record { fits = ga })) $ returns ! (look ! 67 refl) $ forget ! 27 refl $ forget ! 29 refl $ forget ! 31 refl $ forget ! 33 refl $ forget ! 35 refl $ forget ! 37 refl $ forget ! 39 refl $ forget ! 41 refl $ forget ! 43 refl $ forget ! 45 refl $ forget ! 47 refl $ forget ! 49 refl $ forget ! 51 refl $ forget ! 53 refl $ forget ! 55 refl $ forget ! 57 refl $ forget ! 59 refl $ forget ! 61 refl $ forget ! 63 refl $ forget ! 65 refl $ forget ! 67 refl $
+        assigns ! (of-opd ! (load ! (from ! (fld ! refl (stop !))) (look-in ! 45 (sub ! 0 refl (whole !))))) (here !) (init ! 67 refl (tt, record { fits = ga })) $ returns ! (look ! 67 refl) $ forget ! 27 refl $ forget ! 29 refl $ forget ! 31 refl $ forget ! 33 refl $ forget ! 35 refl $ forget ! 37 refl $ forget ! 39 refl $ forget ! 41 refl $ forget ! 43 refl $ forget ! 45 refl $ forget ! 47 refl $ forget ! 49 refl $ forget ! 51 refl $ forget ! 53 refl $ forget ! 55 refl $ forget ! 57 refl $ forget ! 59 refl $ forget ! 61 refl $ forget ! 63 refl $ forget ! 65 refl $ forget ! 67 refl $
         move ! (67 ∷ 68 ∷ []) $ free1 ! $ move ! (65 ∷ 66 ∷ []) $ free1 ! $ move ! (63 ∷ 64 ∷ []) $ free1 ! $ move ! (61 ∷ 62 ∷ []) $ free1 ! $ move ! (59 ∷ 60 ∷ []) $ free1 ! $ move ! (57 ∷ 58 ∷ []) $ free1 ! $ move ! (55 ∷ 56 ∷ []) $ free1 ! $ move ! (53 ∷ 54 ∷ []) $ free1 ! $ move ! (51 ∷ 52 ∷ []) $ free1 ! $ move ! (49 ∷ 50 ∷ []) $ free1 ! $ move ! (47 ∷ 48 ∷ []) $ free1 ! $ move ! (45 ∷ 46 ∷ []) $ free1 ! $ move ! (43 ∷ 44 ∷ []) $ free1 ! $ move ! (41 ∷ 42 ∷ []) $ free1 ! $ move ! (39 ∷ 40 ∷ []) $ free1 ! $ move ! (37 ∷ 38 ∷ []) $ free1 ! $ move ! (35 ∷ 36 ∷ []) $ free1 ! $ move ! (33 ∷ 34 ∷ []) $ free1 ! $ move ! (31 ∷ 32 ∷ []) $ free1 ! $ move ! (29 ∷ 30 ∷ []) $ free1 ! $ move ! (27 ∷ 28 ∷ []) $ free1 ! $ free0 ! $
         move ! (0 ∷ 1 ∷ []) $ join ! $ move ! (4 ∷ 0 ∷ []) $ join ! $ move ! (4 ∷ 0 ∷ []) $ join ! $ move ! (4 ∷ 0 ∷ []) $ join ! $ move ! (4 ∷ 0 ∷ []) $ join ! $ move ! (4 ∷ 0 ∷ []) $ join ! $ keep ! (0 ∷ 14 ∷ 13 ∷ 7 ∷ 6 ∷ 5 ∷ 1 ∷ []) $ by ! (exits r ga (o-of zs) (e-of zs) (k-of zs) (ts .1 .0) (exported asRecords (asks li) n (length (xe .now)) l is-limit called is-told) lo le lk lr)))))))))))))))))))))))))))))))))))))))))
 
