@@ -1,4 +1,5 @@
--- `events::clear` meets its contract: a walk of its MIR with its loop, by hand. The borrow is opened once, before the loop, and closed once, after it. In between the row is i events of zeros and the rest as it was; a turn takes one element out of the row, stores to it whole, and puts it back.
+-- `events::clear` meets its contract: a walk of its MIR with its loop, by hand. The borrow is opened once, before the loop, and closed once, after
+-- it. In between the row is i events of zeros and the rest as it was; a turn takes one element out of the row, stores to it whole, and puts it back.
 -- Assumes nothing.
 use mathlib.Core.Path.{_≡_, refl, sym, ap, subst, _∙_}
 use Prim.Native.Nat.{ℕ, zero, suc, _+_, _<_, _*_, _^_}

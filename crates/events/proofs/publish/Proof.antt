@@ -1,4 +1,6 @@
--- `events::publish` meets its contract: a walk of its MIR with its loop, by hand. A turn calls `record_at`, of which the proof knows only that it meets its contract, and stores what it returned whole in one element. The borrow of `out` is open from before the loop to after it; `words` is Copy, so what it owns is had twice, and one copy goes to the callee.
+-- `events::publish` meets its contract: a walk of its MIR with its loop, by hand. A turn calls `record_at`, of which the proof knows only that it
+-- meets its contract, and stores what it returned whole in one element. The borrow of `out` is open from before the loop to after it; `words` is
+-- Copy, so what it owns is had twice, and one copy goes to the callee.
 -- Assumes nothing.
 use mathlib.Core.Path.{_≡_, refl, sym, ap, subst, _∙_}
 use Prim.Native.Nat.{ℕ, zero, suc, _+_, _<_, _*_, _^_}
