@@ -11,13 +11,13 @@ use borrow.Author.Tests.{leb-true, ne-eqb}
 use Rattle.build.specs.declared.Counts.{Counts}
 use Rattle.build.specs.declared.Made.{Made}
 use Rattle.build.specs.Draft.{countsOf}
-use Rattle.build.specs.Outcome.{outcome}
+use Rattle.build.specs.Outcome.{Outcome, outcome}
 use Rattle.build.specs.declared.Why.the-variants.{Sizes}
 use Rattle.build.specs.declared.Made.the-variants.{Refused}
 use Rattle.block.specs.declared.Block.{Block}
 use Rattle.block.specs.Block.{sizesRight, formatMade}
 use Rattle.block.proofs.Alternatives.{format-sizes}
-use Rattle.pursegable.specs.Building.{left, answerOf, countsAfter, built, flagsOf}
+use Rattle.pursegable.specs.Building.{countsWords, left, answerOf, countsAfter, built, flagsOf}
 use Rattle.pursegable.proofs.Making.{built-left}
 
 pub length-flags : (bs : List ℕ) → length (flagsOf bs) ≡ length bs
@@ -50,14 +50,18 @@ flags-many prefixes suffixes flags h = go (leb prefixes 8) refl where
 
 -- answer 1, before the flags are read; else what `format` answers
 module _ (b : Block) (prefixes suffixes nests t x cs : List ℕ) where
-  pub block-many : 3 ≤ length cs → 8 < length nests → left 1 t x cs ≡ built (λ c t x. formatMade c t x b prefixes suffixes (flagsOf nests)) t x cs
+  abbrev made : Counts → List ℕ → List ℕ → Outcome
+  made c t x = formatMade c t x b prefixes suffixes (flagsOf nests)
+
+  pub block-many : countsWords ≤ length cs → 8 < length nests → left 1 t x cs ≡ built made t x cs
   block-many h k =
-      built-left _ t x cs _ (Refused Sizes) t x cs 1 h refl
-      (format-sizes _ t x b prefixes suffixes (flagsOf nests) (flags-many (length prefixes) (length suffixes) (length (flagsOf nests)) (rw (length-flags nests) k)))
+      let many : 8 < length (flagsOf nests) = rw (length-flags nests) k in
+      built-left made t x cs {made = Refused Sizes} h refl
+      (format-sizes _ t x b prefixes suffixes (flagsOf nests) (flags-many (length prefixes) (length suffixes) (length (flagsOf nests)) many))
       (refl, refl)
 
-  pub block-left : (s : Counts) (made : Made) (t′ x′ cs′ : List ℕ) (r : ℕ) (flags : List Bool) → 3 ≤ length cs → s ≡ countsOf (getD cs 0 0) (getD cs 1 0) → flags ≡ flagsOf nests
-      → outcome made t′ x′ ≡ formatMade s t x b prefixes suffixes flags → (r ≡ answerOf made) × (cs′ ≡ countsAfter made cs)
-      → left r t′ x′ cs′ ≡ built (λ c t x. formatMade c t x b prefixes suffixes (flagsOf nests)) t x cs
-  block-left s made t′ x′ cs′ r flags h is e o k =
-      built-left _ t x cs s made t′ x′ cs′ r h is (o ∙ ap (λ (q : List Bool). formatMade s t x b prefixes suffixes q) e) k
+  pub block-left : {s : Counts} {made′ : Made} {t′ x′ cs′ : List ℕ} {r : ℕ} {flags : List Bool} → countsWords ≤ length cs → s ≡ countsOf (getD cs 0 0) (getD cs 1 0)
+      → flags ≡ flagsOf nests
+      → outcome made′ t′ x′ ≡ formatMade s t x b prefixes suffixes flags → (r ≡ answerOf made′) × (cs′ ≡ countsAfter made′ cs)
+      → left r t′ x′ cs′ ≡ built made t x cs
+  block-left {s} h is e o settled = built-left made t x cs h is (o ∙ ap (λ (q : List Bool). formatMade s t x b prefixes suffixes q) e) settled

@@ -15,6 +15,10 @@ use Rattle.build.specs.Constructors as c
 use Rattle.block.specs.declared.Block.{Block}
 
 -- the builder's words: nodes in use, bytes in use, the node made
+abbrev pub countsWords : ℕ
+countsWords = 3
+
+-- the answer, and what is left
 pub record Left : Type 0 where
   pub answer : ℕ
   pub table : List ℕ
@@ -30,7 +34,7 @@ answerOf (Refused why) = number why
 
 -- a refusal leaves them; words past the third are left in any case
 abbrev pub countsAfter : Made → List ℕ → List ℕ
-countsAfter (Node c n) counts = c .nodes ∷ c .bytes ∷ n .0 ∷ drop 3 counts
+countsAfter (Node c n) counts = c .nodes ∷ c .bytes ∷ n .0 ∷ drop countsWords counts
 countsAfter (Refused why) counts = counts
 
 abbrev pub leftBy : Outcome → List ℕ → Left
@@ -39,7 +43,7 @@ leftBy o counts = left (answerOf (o .made)) (o .table) (o .text) (countsAfter (o
 -- fewer than three words are answer 1
 unfoldable pub built : (Counts → List ℕ → List ℕ → Outcome) → List ℕ → List ℕ → List ℕ → Left
 built f table text counts =
-    pick (leb 3 (length counts)) (leftBy (f (countsOf (getD counts 0 0) (getD counts 1 0)) table text) counts) (left 1 table text counts)
+    pick (leb countsWords (length counts)) (leftBy (f (countsOf (getD counts 0 0) (getD counts 1 0)) table text) counts) (left 1 table text counts)
 
 -- ---- what `make` makes: a kind's number for its constructor, and numbers after the kinds' for the composed ones
 
@@ -77,7 +81,7 @@ known what = leb what 18 && not (eqb what 6)
 -- counts below three words are answer 1; then an unknown constructor is answer 2
 unfoldable pub makes : ℕ → ℕ → ℕ → ℕ → List ℕ → List ℕ → List ℕ → Left
 makes what a b d table text counts =
-    pick (leb 3 (length counts) && not (known what)) (left 2 table text counts) (built (anyMade what a b d) table text counts)
+    pick (leb countsWords (length counts) && not (known what)) (left 2 table text counts) (built (anyMade what a b d) table text counts)
 
 -- ---- block layouts
 

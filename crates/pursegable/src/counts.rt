@@ -7,7 +7,7 @@ ghost use Prim.Native.Nat.{_≤_};
 ghost use lib.ListN.{length, getD};
 ghost use Rattle.build.specs.Draft.{countsOf};
 ghost use Rattle.build.specs.Outcome.{number};
-ghost use Rattle.pursegable.specs.Building.{answerOf, countsAfter};
+ghost use Rattle.pursegable.specs.Building.{countsWords, answerOf, countsAfter};
 
 // The words that the builder's counts take.
 pub const COUNTS_WORDS: usize = 3;
@@ -27,7 +27,7 @@ fn number(why: Why) -> u32
 }
 
 pub fn counts_of(counts: &[u32]) -> Counts
-    requires { ⌜ 3 ≤ length (now counts) ⌝ }
+    requires { ⌜ countsWords ≤ length (now counts) ⌝ }
     ensures { λ r. ⌜ r ≡ countsOf (getD (now (counts .entry)) 0 0) (getD (now (counts .entry)) 1 0) ⌝ }
 {
     Counts {
@@ -38,7 +38,7 @@ pub fn counts_of(counts: &[u32]) -> Counts
 
 // The counts and the node are put back, or the refusal's number is given.
 pub fn settle(made: Made, counts: &mut [u32]) -> u32
-    requires { ⌜ 3 ≤ length (now counts) ⌝ }
+    requires { ⌜ countsWords ≤ length (now counts) ⌝ }
     ensures { λ r. ⌜ (r ≡ answerOf made) × (now (counts .exit) ≡ countsAfter made (now (counts .entry))) ⌝ }
 {
     match made {

@@ -46,8 +46,13 @@ same-length-2 c = search needs
 
 returns-3 : tie.Need-returns-3
 returns-3 c =
-    block-left _ _ _ (c .before .before .before .before .before .before .before .before .before .before .before .before .before .before .before .before .before .before .before .before .before .before .args .nests .now) _ _ _ _ _ _ _ _ _ _ (c .before .before .before .before .before .before .before .before .before .before .before .before .before .before .before .if1 .left) (c .before .before .before .before .before .before .before .before .before .counts-of .ensures) (c .before .before .before .before .before .before .before .before .before .before .before .before .set-flags .ensures)
-    (c .before .before .before .before .before .before .format .ensures) (c .before .before .settle .ensures)
+    let settled = c .before .before in
+    let made = settled .before .before .before .before in
+    let read = made .before .before .before in
+    let flagged = read .before .before .before in
+    let few = flagged .before .before .before in
+    let nests = few .before .before .before .before .before .before .before .args .nests .now in
+    block-left _ _ _ nests _ _ _ (few .if1 .left) (read .counts-of .ensures) (flagged .set-flags .ensures) (made .format .ensures) (settled .settle .ensures)
 
 pub pursegable-block-spec : {M : Type 1} → statement M
 pursegable-block-spec =

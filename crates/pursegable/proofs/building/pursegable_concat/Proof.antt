@@ -1,10 +1,6 @@
 -- `pursegable_concat` meets its contract: too few words, or what the constructor answers.
 -- Assumes nothing.
 use borrow.Author.Needs.{needs}
-use Rattle.build.specs.declared.Counts.{Counts}
-use Rattle.build.specs.Constructors.{concatMade}
-use mathlib.Core.List.{List}
-use Prim.Native.Nat.{ℕ}
 use Rattle.pursegable.proofs.Making.{built-short, built-left}
 use Rattle.pursegable.proofs.building.pursegable_concat.Statement.{statement}
 use Rattle.pursegable.proofs.building.pursegable_concat.Tie as tie
@@ -29,26 +25,10 @@ same-length-2 c = search needs
 
 returns-2 : tie.Need-returns-2
 returns-2 c =
-    let at2 = c .before .before in
-    let at6 = at2 .before .before .before .before in
-    let at8 = at6 .before .before in
-    let at10 = at8 .before .before in
-    let start = at10 .before .before .before .before .before in
-    built-left
-    (λ (s : Counts) (t x : List ℕ). concatMade s t x (start .args .nodes .now))
-    _
-    _
-    _
-    _
-    _
-    _
-    _
-    _
-    _
-    (at10 .if1 .left)
-    (at8 .counts-of .ensures)
-    (at6 .concat .ensures)
-    (at2 .settle .ensures)
+    let settled = c .before .before in
+    let made = settled .before .before .before .before in
+    let read = made .before .before in
+    built-left _ _ _ _ (read .before .before .if1 .left) (read .counts-of .ensures) (made .concat .ensures) (settled .settle .ensures)
 
 pub pursegable-concat-spec : {M : Type 1} → statement M
 pursegable-concat-spec =

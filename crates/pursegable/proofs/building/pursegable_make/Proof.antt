@@ -36,8 +36,12 @@ same-length-3 c = search needs
 
 returns-3 : tie.Need-returns-3
 returns-3 c =
-    makes-left _ _ _ _ _ _ _ _ _ _ _ _ _ (c .before .before .before .before .before .before .before .before .before .before .before .before .before .before .before .if1 .left) (sym (c .before .before .before .before .before .before .before .before .before .before .before .before .before .before .known .ensures) ∙ not-false _ (c .before .before .before .before .before .before .before .before .before .before .before .before .before .if2 .left)) (c .before .before .before .before .before .before .before .before .before .before .before .counts-of .ensures)
-    (c .before .before .before .before .before .before .before .before .any .ensures) (c .before .before .settle .ensures)
+    let settled = c .before .before in
+    let made = settled .before .before .before .before .before .before in
+    let read = made .before .before .before in
+    let accepted = read .before .before in
+    let is-known = sym (accepted .before .known .ensures) ∙ not-false _ (accepted .if2 .left) in
+    makes-left _ _ _ _ _ _ _ (accepted .before .before .if1 .left) is-known (read .counts-of .ensures) (made .any .ensures) (settled .settle .ensures)
 
 pub pursegable-make-spec : {M : Type 1} → statement M
 pursegable-make-spec =

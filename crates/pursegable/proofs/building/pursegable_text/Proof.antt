@@ -1,10 +1,6 @@
 -- `pursegable_text` meets its contract: too few words, or what the constructor answers.
 -- Assumes nothing.
 use borrow.Author.Needs.{needs}
-use Rattle.build.specs.declared.Counts.{Counts}
-use Rattle.build.specs.Constructors.{textMade}
-use mathlib.Core.List.{List}
-use Prim.Native.Nat.{ℕ}
 use Rattle.pursegable.proofs.Making.{built-short, built-left}
 use Rattle.pursegable.proofs.building.pursegable_text.Statement.{statement}
 use Rattle.pursegable.proofs.building.pursegable_text.Tie as tie
@@ -32,26 +28,10 @@ same-length-3 c = search needs
 
 returns-2 : tie.Need-returns-2
 returns-2 c =
-    let at2 = c .before .before in
-    let at8 = at2 .before .before .before .before .before .before in
-    let at11 = at8 .before .before .before in
-    let at13 = at11 .before .before in
-    let start = at13 .before .before .before .before .before in
-    built-left
-    (λ (s : Counts) (t x : List ℕ). textMade s t x (start .args .bytes .now) (start .args .columns))
-    _
-    _
-    _
-    _
-    _
-    _
-    _
-    _
-    _
-    (at13 .if1 .left)
-    (at11 .counts-of .ensures)
-    (at8 .text .ensures)
-    (at2 .settle .ensures)
+    let settled = c .before .before in
+    let made = settled .before .before .before .before .before .before in
+    let read = made .before .before .before in
+    built-left _ _ _ _ (read .before .before .if1 .left) (read .counts-of .ensures) (made .text .ensures) (settled .settle .ensures)
 
 pub pursegable-text-spec : {M : Type 1} → statement M
 pursegable-text-spec =

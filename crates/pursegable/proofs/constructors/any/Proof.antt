@@ -2,7 +2,7 @@
 -- Assumes nothing.
 use borrow.Author.Needs.{needs}
 use Rattle.pursegable.specs.Building.{anyMade}
-use Rattle.pursegable.proofs.Making.{any-at, any-rest}
+use Rattle.pursegable.proofs.Making.{any-rest}
 use Rattle.pursegable.proofs.constructors.any.Statement.{statement}
 use Rattle.pursegable.proofs.constructors.any.Tie as tie
 
@@ -18,10 +18,8 @@ same-length-2 c = search needs
 returns : tie.Need-returns
 unfolding anyMade
 returns c =
-    let at4 = c .before .before .before .before in
-    let at7 = at4 .before .before .before in
-    let start = at7 .before .before .before in
-    any-at _ (start .args .a) (start .args .b) (start .args .d) _ _ _ 11 _ (at7 .match .keys1) (at4 .space .ensures)
+    let made = c .before .before .before .before in
+    rw (made .before .before .before .match .keys1) (made .space .ensures)
 
 line-requires : tie.Need-line-requires
 line-requires c κs = search needs
@@ -35,10 +33,8 @@ same-length-4 c = search needs
 returns-2 : tie.Need-returns-2
 unfolding anyMade
 returns-2 c =
-    let at4 = c .before .before .before .before in
-    let at7 = at4 .before .before .before in
-    let start = at7 .before .before .before in
-    any-at _ (start .args .a) (start .args .b) (start .args .d) _ _ _ 12 _ (at7 .match .keys2) (at4 .line .ensures)
+    let made = c .before .before .before .before in
+    rw (made .before .before .before .match .keys2) (made .line .ensures)
 
 softline-requires : tie.Need-softline-requires
 softline-requires c κs = search needs
@@ -52,10 +48,8 @@ same-length-6 c = search needs
 returns-3 : tie.Need-returns-3
 unfolding anyMade
 returns-3 c =
-    let at4 = c .before .before .before .before in
-    let at7 = at4 .before .before .before in
-    let start = at7 .before .before .before in
-    any-at _ (start .args .a) (start .args .b) (start .args .d) _ _ _ 14 _ (at7 .match .keys3) (at4 .softline .ensures)
+    let made = c .before .before .before .before in
+    rw (made .before .before .before .match .keys3) (made .softline .ensures)
 
 indent-requires : tie.Need-indent-requires
 indent-requires c κs = search needs
@@ -69,10 +63,8 @@ same-length-8 c = search needs
 returns-4 : tie.Need-returns-4
 unfolding anyMade
 returns-4 c =
-    let at4 = c .before .before .before .before in
-    let at7 = at4 .before .before .before in
-    let start = at7 .before .before .before in
-    any-at _ (start .args .a) (start .args .b) (start .args .d) _ _ _ 17 _ (at7 .match .keys4) (at4 .indent .ensures)
+    let made = c .before .before .before .before in
+    rw (made .before .before .before .match .keys4) (made .indent .ensures)
 
 reading-requires : tie.Need-reading-requires
 reading-requires c κs = search needs
@@ -85,10 +77,8 @@ same-length-10 c = search needs
 
 returns-5 : tie.Need-returns-5
 returns-5 c =
-    let at2 = c .before .before in
-    let at5 = at2 .before .before .before in
-    let h = at5 .match .rest in
-    any-rest _ _ _ _ _ _ _ _ (h .0 .0 .0 .1) (h .0 .0 .1) (h .0 .1) (h .1) (at2 .reading .ensures)
+    let made = c .before .before in
+    any-rest _ _ _ _ _ _ _ (made .before .before .before .match .rest) (made .reading .ensures)
 
 pub any-spec : {M : Type 1} → statement M
 any-spec =

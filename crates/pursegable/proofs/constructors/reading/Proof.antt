@@ -2,7 +2,7 @@
 -- Assumes nothing.
 use borrow.Author.Needs.{needs}
 use Rattle.pursegable.specs.Building.{readingMade}
-use Rattle.pursegable.proofs.Making.{reading-at, reading-rest}
+use Rattle.pursegable.proofs.Making.{reading-rest}
 use Rattle.pursegable.proofs.constructors.reading.Statement.{statement}
 use Rattle.pursegable.proofs.constructors.reading.Tie as tie
 
@@ -15,10 +15,8 @@ same-length c = search needs
 returns : tie.Need-returns
 unfolding readingMade
 returns c =
-    let at2 = c .before .before in
-    let at4 = at2 .before .before in
-    let start = at4 .before .before .before in
-    reading-at _ (start .args .a) (start .args .b) (start .args .d) _ _ _ 0 _ (at4 .match .keys1) (at2 .nil .ensures)
+    let made = c .before .before in
+    rw (made .before .before .match .keys1) (made .nil .ensures)
 
 append-requires : tie.Need-append-requires
 append-requires c κs = search needs
@@ -29,10 +27,8 @@ same-length-2 c = search needs
 returns-2 : tie.Need-returns-2
 unfolding readingMade
 returns-2 c =
-    let at2 = c .before .before in
-    let at4 = at2 .before .before in
-    let start = at4 .before .before .before in
-    reading-at _ (start .args .a) (start .args .b) (start .args .d) _ _ _ 1 _ (at4 .match .keys2) (at2 .append .ensures)
+    let made = c .before .before in
+    rw (made .before .before .match .keys2) (made .append .ensures)
 
 group-requires : tie.Need-group-requires
 group-requires c κs = search needs
@@ -43,10 +39,8 @@ same-length-3 c = search needs
 returns-3 : tie.Need-returns-3
 unfolding readingMade
 returns-3 c =
-    let at2 = c .before .before in
-    let at4 = at2 .before .before in
-    let start = at4 .before .before .before in
-    reading-at _ (start .args .a) (start .args .b) (start .args .d) _ _ _ 2 _ (at4 .match .keys3) (at2 .group .ensures)
+    let made = c .before .before in
+    rw (made .before .before .match .keys3) (made .group .ensures)
 
 flat-alt-requires : tie.Need-flat-alt-requires
 flat-alt-requires c κs = search needs
@@ -57,10 +51,8 @@ same-length-4 c = search needs
 returns-4 : tie.Need-returns-4
 unfolding readingMade
 returns-4 c =
-    let at2 = c .before .before in
-    let at4 = at2 .before .before in
-    let start = at4 .before .before .before in
-    reading-at _ (start .args .a) (start .args .b) (start .args .d) _ _ _ 3 _ (at4 .match .keys4) (at2 .flat-alt .ensures)
+    let made = c .before .before in
+    rw (made .before .before .match .keys4) (made .flat-alt .ensures)
 
 nest-requires : tie.Need-nest-requires
 nest-requires c κs = search needs
@@ -71,10 +63,8 @@ same-length-5 c = search needs
 returns-5 : tie.Need-returns-5
 unfolding readingMade
 returns-5 c =
-    let at2 = c .before .before in
-    let at4 = at2 .before .before in
-    let start = at4 .before .before .before in
-    reading-at _ (start .args .a) (start .args .b) (start .args .d) _ _ _ 4 _ (at4 .match .keys5) (at2 .nest .ensures)
+    let made = c .before .before in
+    rw (made .before .before .match .keys5) (made .nest .ensures)
 
 hardline-requires : tie.Need-hardline-requires
 hardline-requires c κs = search needs
@@ -85,10 +75,8 @@ same-length-6 c = search needs
 returns-6 : tie.Need-returns-6
 unfolding readingMade
 returns-6 c =
-    let at2 = c .before .before in
-    let at4 = at2 .before .before in
-    let start = at4 .before .before .before in
-    reading-at _ (start .args .a) (start .args .b) (start .args .d) _ _ _ 5 _ (at4 .match .keys6) (at2 .hardline .ensures)
+    let made = c .before .before in
+    rw (made .before .before .match .keys6) (made .hardline .ensures)
 
 annotate-requires : tie.Need-annotate-requires
 annotate-requires c κs = search needs
@@ -99,10 +87,8 @@ same-length-7 c = search needs
 returns-7 : tie.Need-returns-7
 unfolding readingMade
 returns-7 c =
-    let at2 = c .before .before in
-    let at4 = at2 .before .before in
-    let start = at4 .before .before .before in
-    reading-at _ (start .args .a) (start .args .b) (start .args .d) _ _ _ 7 _ (at4 .match .keys7) (at2 .annotate .ensures)
+    let made = c .before .before in
+    rw (made .before .before .match .keys7) (made .annotate .ensures)
 
 union-requires : tie.Need-union-requires
 union-requires c κs = search needs
@@ -113,10 +99,8 @@ same-length-8 c = search needs
 returns-8 : tie.Need-returns-8
 unfolding readingMade
 returns-8 c =
-    let at2 = c .before .before in
-    let at4 = at2 .before .before in
-    let start = at4 .before .before .before in
-    reading-at _ (start .args .a) (start .args .b) (start .args .d) _ _ _ 8 _ (at4 .match .keys8) (at2 .union .ensures)
+    let made = c .before .before in
+    rw (made .before .before .match .keys8) (made .union .ensures)
 
 align-requires : tie.Need-align-requires
 align-requires c κs = search needs
@@ -127,10 +111,8 @@ same-length-9 c = search needs
 returns-9 : tie.Need-returns-9
 unfolding readingMade
 returns-9 c =
-    let at2 = c .before .before in
-    let at4 = at2 .before .before in
-    let start = at4 .before .before .before in
-    reading-at _ (start .args .a) (start .args .b) (start .args .d) _ _ _ 9 _ (at4 .match .keys9) (at2 .align .ensures)
+    let made = c .before .before in
+    rw (made .before .before .match .keys9) (made .align .ensures)
 
 fail-requires : tie.Need-fail-requires
 fail-requires c κs = search needs
@@ -141,10 +123,8 @@ same-length-10 c = search needs
 returns-10 : tie.Need-returns-10
 unfolding readingMade
 returns-10 c =
-    let at2 = c .before .before in
-    let at4 = at2 .before .before in
-    let start = at4 .before .before .before in
-    reading-at _ (start .args .a) (start .args .b) (start .args .d) _ _ _ 10 _ (at4 .match .keys10) (at2 .fail .ensures)
+    let made = c .before .before in
+    rw (made .before .before .match .keys10) (made .fail .ensures)
 
 line--requires : tie.Need-line--requires
 line--requires c κs = search needs
@@ -155,10 +135,8 @@ same-length-11 c = search needs
 returns-11 : tie.Need-returns-11
 unfolding readingMade
 returns-11 c =
-    let at2 = c .before .before in
-    let at4 = at2 .before .before in
-    let start = at4 .before .before .before in
-    reading-at _ (start .args .a) (start .args .b) (start .args .d) _ _ _ 13 _ (at4 .match .keys11) (at2 .line- .ensures)
+    let made = c .before .before in
+    rw (made .before .before .match .keys11) (made .line- .ensures)
 
 softline--requires : tie.Need-softline--requires
 softline--requires c κs = search needs
@@ -169,10 +147,8 @@ same-length-12 c = search needs
 returns-12 : tie.Need-returns-12
 unfolding readingMade
 returns-12 c =
-    let at2 = c .before .before in
-    let at4 = at2 .before .before in
-    let start = at4 .before .before .before in
-    reading-at _ (start .args .a) (start .args .b) (start .args .d) _ _ _ 15 _ (at4 .match .keys12) (at2 .softline- .ensures)
+    let made = c .before .before in
+    rw (made .before .before .match .keys12) (made .softline- .ensures)
 
 hang-requires : tie.Need-hang-requires
 hang-requires c κs = search needs
@@ -183,10 +159,8 @@ same-length-13 c = search needs
 returns-13 : tie.Need-returns-13
 unfolding readingMade
 returns-13 c =
-    let at2 = c .before .before in
-    let at4 = at2 .before .before in
-    let start = at4 .before .before .before in
-    reading-at _ (start .args .a) (start .args .b) (start .args .d) _ _ _ 16 _ (at4 .match .keys13) (at2 .hang .ensures)
+    let made = c .before .before in
+    rw (made .before .before .match .keys13) (made .hang .ensures)
 
 enclose-requires : tie.Need-enclose-requires
 enclose-requires c κs = search needs
@@ -196,32 +170,8 @@ same-length-14 c = search needs
 
 returns-14 : tie.Need-returns-14
 returns-14 c =
-    let at2 = c .before .before in
-    let at4 = at2 .before .before in
-    let h = at4 .match .rest in
-    reading-rest
-    _
-    _
-    _
-    _
-    _
-    _
-    _
-    _
-    (h .0 .0 .0 .0 .0 .0 .0 .0 .0 .0 .0 .0 .1)
-    (h .0 .0 .0 .0 .0 .0 .0 .0 .0 .0 .0 .1)
-    (h .0 .0 .0 .0 .0 .0 .0 .0 .0 .0 .1)
-    (h .0 .0 .0 .0 .0 .0 .0 .0 .0 .1)
-    (h .0 .0 .0 .0 .0 .0 .0 .0 .1)
-    (h .0 .0 .0 .0 .0 .0 .0 .1)
-    (h .0 .0 .0 .0 .0 .0 .1)
-    (h .0 .0 .0 .0 .0 .1)
-    (h .0 .0 .0 .0 .1)
-    (h .0 .0 .0 .1)
-    (h .0 .0 .1)
-    (h .0 .1)
-    (h .1)
-    (at2 .enclose .ensures)
+    let made = c .before .before in
+    reading-rest _ _ _ _ _ _ _ (made .before .before .match .rest) (made .enclose .ensures)
 
 pub reading-spec : {M : Type 1} → statement M
 reading-spec =

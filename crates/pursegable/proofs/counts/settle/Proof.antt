@@ -32,8 +32,11 @@ same-length : tie.Need-same-length
 same-length c = search needs
 
 returns : tie.Need-returns
-returns c = let e = c .before .made .given .1 in
-    (sym (ap answerOf e), counts-set (c .before .before .before .before .args .counts .now) _ _ _ (c .before .before .before .before .pre) ∙ sym (ap (λ (m : Made). countsAfter m (c .before .before .before .before .args .counts .now)) e))
+returns c =
+    let start = c .before .before .before .before in
+    let counts = start .args .counts .now in
+    let node = c .before .made .given .1 in
+    (sym (ap answerOf node), counts-set counts _ _ _ (start .pre) ∙ sym (ap (λ (m : Made). countsAfter m counts) node))
 
 returns-2 : tie.Need-returns-2
 returns-2 c = search needs
