@@ -120,18 +120,20 @@ Layout 𝓤 H A mem run = tripleOf 𝓤 H A lay.signature (lay.spec 𝓤 H A mem
 abbrev Lasts : Type 0
 Lasts = Unit {0} × (Unit {0} × (Unit {0} × (Unit {0} × (List ℕ × (List Event × (List ℕ × (List ℕ × Unit {0})))))))
 
-abbrev o-of : Lasts → List ℕ
-o-of zs = zs .1 .1 .1 .1 .0
+abbrev last-out : Lasts → List ℕ
+last-out zs = zs .1 .1 .1 .1 .0
 
-abbrev e-of : Lasts → List Event
-e-of zs = zs .1 .1 .1 .1 .1 .0
+abbrev last-events : Lasts → List Event
+last-events zs = zs .1 .1 .1 .1 .1 .0
 
-abbrev k-of : Lasts → List ℕ
-k-of zs = zs .1 .1 .1 .1 .1 .1 .0
+abbrev last-work : Lasts → List ℕ
+last-work zs = zs .1 .1 .1 .1 .1 .1 .0
 
-abbrev r-of : Lasts → List ℕ
-r-of zs = zs .1 .1 .1 .1 .1 .1 .1 .0
+abbrev last-report : Lasts → List ℕ
+last-report zs = zs .1 .1 .1 .1 .1 .1 .1 .0
 
+-- What is passed: references x.., of which g.. says that their elements have room, and s.. are the machine's values (t table, x text, o out, e events,
+-- k work, r report), with a lifetime and a share of its token for each.
 module _ (width : ℕ) (narrow : Holds (ltb width (2 ^ 32))) {M : Type 1} (𝓤 : URA M) (H : Heap 𝓤) (A : Atoms 𝓤) (W : Given 𝓤 H A) (mem : Memory → SProp 𝓤)
     (run : Routine → Fun 𝓤) (κ₀ κ₁ κ₂ κ₃ κ₄ κ₅ : Lft) (q₀ q₁ q₂ q₃ q₄ q₅ : Share)
     (xt xx xo : RefT (List ℕ)) (xe : RefT (List Event)) (xk xr : RefT (List ℕ))
@@ -298,9 +300,11 @@ module _ (width : ℕ) (narrow : Holds (ltb width (2 ^ 32))) {M : Type 1} (𝓤 
         use1 W (later (some (λ (r : ℕ). (tokens ⊛ ‵ (u32 .own r (w ∷ []))) ⊛ raw (ensured 𝓤 H A lay.ended (lay.clauses 𝓤 H A mem run) κs as-layout tt r))))
         (id⊢ 𝓤 _) $
         await ! tt $ take-up ! (λ r. split ! $ move ! (1 ∷ []) $
-        use1 W (some (λ (zs : Lasts). ‵ (lasts lay.ended κs as-layout zs) ⊛ raw (fact 𝓤 (Promised r (o-of zs) (e-of zs) (k-of zs) (r-of zs))))) (id⊢ 𝓤 _) $
+        use1 W (some (λ (zs : Lasts). ‵ (lasts lay.ended κs as-layout zs)
+        ⊛ raw (fact 𝓤 (Promised r (last-out zs) (last-events zs) (last-work zs) (last-report zs))))) (id⊢ 𝓤 _) $
         take-up ! (λ zs.
-        split ! $ move ! (1 ∷ []) $ heard ! (Promised r (o-of zs) (e-of zs) (k-of zs) (r-of zs)) (λ promised. fsplit ! $ move ! (1 ∷ []) $ fsplit ! $
+        split ! $ move ! (1 ∷ []) $ heard ! (Promised r (last-out zs) (last-events zs) (last-work zs) (last-report zs)) (λ promised. fsplit ! $
+        move ! (1 ∷ []) $ fsplit ! $
         move ! (1 ∷ []) $ fsplit ! $ move ! (1 ∷ []) $ fsplit ! $ move ! (1 ∷ []) $ fsplit ! $ move ! (1 ∷ []) $ fsplit ! $ move ! (1 ∷ []) $ fsplit ! $
         move ! (1 ∷ []) $ fsplit ! $ move ! (4 ∷ []) $ fsplit ! $ move ! (1 ∷ []) $ feqL ! (λ lo. move ! (4 ∷ []) $ fsplit ! $ move ! (1 ∷ []) $
         feqL ! (λ le. move ! (4 ∷ []) $ fsplit ! $ move ! (1 ∷ []) $ feqL ! (λ lk. move ! (3 ∷ []) $ fsplit ! $ move ! (1 ∷ []) $
@@ -315,7 +319,8 @@ module _ (width : ℕ) (narrow : Holds (ltb width (2 ^ 32))) {M : Type 1} (𝓤 
         move ! (34 ∷ 35 ∷ []) $ free1 ! $ move ! (32 ∷ 33 ∷ []) $ free1 ! $ move ! (30 ∷ 31 ∷ []) $ free1 ! $ move ! (28 ∷ 29 ∷ []) $ free1 ! $
         move ! (26 ∷ 27 ∷ []) $ free1 ! $ move ! (24 ∷ 25 ∷ []) $ free1 ! $ move ! (22 ∷ 23 ∷ []) $ free1 ! $ move ! (20 ∷ 21 ∷ []) $ free1 ! $
         move ! (18 ∷ 19 ∷ []) $ free1 ! $ move ! (16 ∷ 17 ∷ []) $ free1 ! $ move ! (14 ∷ 15 ∷ []) $ free1 ! $ free0 ! $
-        keep ! (1 ∷ 12 ∷ 11 ∷ 5 ∷ 4 ∷ 3 ∷ 2 ∷ []) $ by ! (exits r (is .1) (o-of zs) (e-of zs) (k-of zs) (r-of zs) promised lo le lk lr)))))))))))))))))))))))))
+        keep ! (1 ∷ 12 ∷ 11 ∷ 5 ∷ 4 ∷ 3 ∷ 2 ∷ []) $
+        by ! (exits r (is .1) (last-out zs) (last-events zs) (last-work zs) (last-report zs) promised lo le lk lr)))))))))))))))))))))))))
 
 module _ (width : ℕ) (narrow : Holds (ltb width (2 ^ 32))) {M : Type 1} (𝓤 : URA M) (H : Heap 𝓤) (A : Atoms 𝓤) (W : Given 𝓤 H A) (mem : Memory → SProp 𝓤)
     (run : Routine → Fun 𝓤) (𝓣 : Tables 𝓤 H) (known : Triple 𝓤 (𝓣 .C #pursegable·pursegable-layout) (Layout 𝓤 H A mem run)) where

@@ -141,7 +141,7 @@ pub extern "C" fn pursegable_block(
     if AFFIXES < n {
         return 1;
     }
-    let mut flags = [false; 8];
+    let mut flags = [false; AFFIXES];
     set_flags(nests, &mut flags);
     let block = Block {
         body: NodeNo(body),

@@ -102,15 +102,17 @@ room = (lit< tt, lit< tt)
 abbrev Lasts : Type 0
 Lasts = Unit {0} × (Unit {0} × (Unit {0} × (Unit {0} × (List ℕ × (Unit {0} × (List ℕ × (List ℕ × Unit {0})))))))
 
-abbrev o-of : Lasts → List ℕ
-o-of zs = zs .1 .1 .1 .1 .0
+abbrev last-out : Lasts → List ℕ
+last-out zs = zs .1 .1 .1 .1 .0
 
-abbrev w-of : Lasts → List ℕ
-w-of zs = zs .1 .1 .1 .1 .1 .1 .0
+abbrev last-words : Lasts → List ℕ
+last-words zs = zs .1 .1 .1 .1 .1 .1 .0
 
-abbrev k-of : Lasts → List ℕ
-k-of zs = zs .1 .1 .1 .1 .1 .1 .1 .0
+abbrev last-work : Lasts → List ℕ
+last-work zs = zs .1 .1 .1 .1 .1 .1 .1 .0
 
+-- What is passed: references x.., of which g.. says that their elements have room, and s.. are the machine's values (t table, x text, o out, e events,
+-- k work), with a lifetime and a share of its token for each; the width wi and the limit li.
 module _ {M : Type 1} (𝓤 : URA M) (H : Heap 𝓤) (A : Atoms 𝓤) (W : Given 𝓤 H A) (mem : Memory → SProp 𝓤) (run : Routine → Fun 𝓤) (κ₀ κ₁ κ₂ κ₃ κ₄ : Lft)
     (q₀ q₁ q₂ q₃ q₄ : Share)
     (xt xx : RefT (List ℕ)) (wi li : ℕ) (xo : RefT (List ℕ)) (xe : RefT (List Event)) (xk : RefT (List ℕ))
@@ -314,9 +316,10 @@ module _ {M : Type 1} (𝓤 : URA M) (H : Heap 𝓤) (A : Atoms 𝓤) (W : Given
         ⊛ raw (ensured 𝓤 H A staged.ended (staged.clauses 𝓤 H A mem run) (staged-κs ν) (as-staged l₈ δ) tt r)))) (id⊢ 𝓤 _) $
         await ! tt $ pick ! (λ r. split ! $ move ! (1 ∷ []) $
         use1 W (some (λ (zs : Lasts). ‵ (lasts staged.ended (staged-κs ν) (as-staged l₈ δ) zs)
-        ⊛ raw (fact 𝓤 (Promised r (o-of zs) (published (w-of zs) (r .events) m) (k-of zs))))) (id⊢ 𝓤 _) $
+        ⊛ raw (fact 𝓤 (Promised r (last-out zs) (published (last-words zs) (r .events) m) (last-work zs))))) (id⊢ 𝓤 _) $
         pick ! (λ zs.
-        split ! $ move ! (1 ∷ []) $ heard ! (Promised r (o-of zs) (published (w-of zs) (r .events) m) (k-of zs)) (λ e. fsplit ! $ move ! (1 ∷ []) $ fsplit ! $
+        split ! $ move ! (1 ∷ []) $ heard ! (Promised r (last-out zs) (published (last-words zs) (r .events) m) (last-work zs)) (λ e. fsplit ! $
+        move ! (1 ∷ []) $ fsplit ! $
         move ! (1 ∷ []) $ fsplit ! $ move ! (1 ∷ []) $ fsplit ! $ move ! (1 ∷ []) $ fsplit ! $ move ! (1 ∷ []) $ fsplit ! $ move ! (1 ∷ []) $ fsplit ! $
         move ! (1 ∷ []) $ fsplit ! $ move ! (2 ∷ []) $ fsplit ! $ move ! (1 ∷ []) $ feqL ! (λ lw. move ! (4 ∷ []) $ fsplit ! $ move ! (1 ∷ []) $
         feqL ! (λ lo. move ! (2 ∷ []) $ fsplit ! $ move ! (1 ∷ []) $ feqL ! (λ lk. move ! (9 ∷ []) $ split ! $ move ! (1 ∷ []) $
@@ -329,8 +332,10 @@ module _ {M : Type 1} (𝓤 : URA M) (H : Heap 𝓤) (A : Atoms 𝓤) (W : Given
         -- the lifetime is ended, and the memory comes back
         move ! (1 ∷ []) $ split ! $ move ! (1 ∷ []) $ split ! $ move ! (1 ∷ []) $ split ! $ move ! (1 ∷ []) $ split ! $ move ! (1 ∷ []) $ split ! $
         move ! (2 ∷ []) $ lft-end ! tt $ move ! (0 ∷ 16 ∷ 9 ∷ []) $
-        use3 W (later (‵ (Arr (in-memory u32) most .lies (w-of zs) l₈ 0))) (slice-back 𝓤 H A W u32 (ν ∷ []) δ (w-of zs) most l₈ 0) $ await ! tt $ fsplit ! $
-        drop ! $ use1 W (‵ (row u32 fullShare (w-of zs) l₈ 0)) (whole-out 𝓤 H A W u32 (w-of zs) l₈ 0) $ feqI ! ℕ (length (w-of zs)) (length (w-of zs)) refl $
+        use3 W (later (‵ (Arr (in-memory u32) most .lies (last-words zs) l₈ 0))) (slice-back 𝓤 H A W u32 (ν ∷ []) δ (last-words zs) most l₈ 0) $ await ! tt $
+        fsplit ! $
+        drop ! $ use1 W (‵ (row u32 fullShare (last-words zs) l₈ 0)) (whole-out 𝓤 H A W u32 (last-words zs) l₈ 0) $
+        feqI ! ℕ (length (last-words zs)) (length (last-words zs)) refl $
         fjoin ! $
         assigns ! (of-opd ! (load ! (from ! (fld ! refl (stop !))) (look-in ! 46 (sub ! 4 refl (whole !))))) (here !)
         (init ! 44 refl (tt, record { fits = gm })) $
@@ -342,29 +347,32 @@ module _ {M : Type 1} (𝓤 : URA M) (H : Heap 𝓤) (A : Atoms 𝓤) (W : Given
         (init ! 22 refl (tt, (tt, (record { fits = gy .0 }, tt)))) $
         -- the words are shared out
         lft-new ! tt (λ ν₂. move ! (1 ∷ []) $
-        use1 W (later (some (λ (δ₂ : GName). ‵ (ShrSlice (named 0) (ν₂ ∷ []) u32 .own (xw l₈ δ₂ (w-of zs)) (sliceVal (l₈, 0) (length (w-of zs)) ∷ []))
-        ⊛ ‵ (flent (ν₂ ∷ []) (arr-parts (shares u32) (length (w-of zs)) .part fullShare (w-of zs) l₈ 0)))))
-        (lends-shr-slice 𝓤 H A W u32 (named 0) (ν₂ ∷ []) fullShare (w-of zs) l₈ 0 (subst (Room u32) (sym lw) room)) $
+        use1 W (later (some (λ (δ₂ : GName). ‵ (ShrSlice (named 0) (ν₂ ∷ []) u32 .own (xw l₈ δ₂ (last-words zs))
+        (sliceVal (l₈, 0) (length (last-words zs)) ∷ []))
+        ⊛ ‵ (flent (ν₂ ∷ []) (arr-parts (shares u32) (length (last-words zs)) .part fullShare (last-words zs) l₈ 0)))))
+        (lends-shr-slice 𝓤 H A W u32 (named 0) (ν₂ ∷ []) fullShare (last-words zs) l₈ 0 (subst (Room u32) (sym lw) room)) $
         await ! tt $ pick ! (λ δ₂. split ! $
-        rewrite ! 0 (λ (k : ℕ). ‵ (ShrSlice (named 0) (ν₂ ∷ []) u32 .own (xw l₈ δ₂ (w-of zs)) (sliceVal (l₈, 0) k ∷ []))) lw refl $
+        rewrite ! 0 (λ (k : ℕ). ‵ (ShrSlice (named 0) (ν₂ ∷ []) u32 .own (xw l₈ δ₂ (last-words zs)) (sliceVal (l₈, 0) k ∷ []))) lw refl $
         move ! (19 ∷ 4 ∷ []) $ join ! $ move ! (3 ∷ 0 ∷ []) $ join ! $ move ! (0 ∷ 1 ∷ 19 ∷ []) $
-        use3 W (raw (Publish 𝓤 H A mem run .pre (to-publish l₈ ν₂ δ₂ (w-of zs) (r .events)))) (goes-publish l₈ ν₂ δ₂ (w-of zs) (r .events) gm) $
+        use3 W (raw (Publish 𝓤 H A mem run .pre (to-publish l₈ ν₂ δ₂ (last-words zs) (r .events)))) (goes-publish l₈ ν₂ δ₂ (last-words zs) (r .events) gm) $
         -- `publish`
-        calls-at ! fm (Publish 𝓤 H A mem run) known-publish (to-publish l₈ ν₂ δ₂ (w-of zs) (r .events))
+        calls-at ! fm (Publish 𝓤 H A mem run) known-publish (to-publish l₈ ν₂ δ₂ (last-words zs) (r .events))
         (and-then ! (value ! 24 refl) (and-then ! (value ! 42 refl) (and-then ! (value ! 20 refl) (no-more !)))) (λ w₂.
         use1 W (later (some (λ (r₂ : Unit {0}). ((‵ (flft (ν₂ ∷ []) fullShare) ⊛ ‵ (flft κ₃ q₃) ⊛ ‵ ftrue) ⊛ ‵ (unit .own r₂ (w₂ ∷ [])))
-        ⊛ raw (ensured 𝓤 H A publish.ended (publish.clauses 𝓤 H A mem run) (ν₂ ∷ [], (κ₃, tt)) (xw l₈ δ₂ (w-of zs), (r .events, (xe, tt))) tt r₂)))) (id⊢ 𝓤 _) $
+        ⊛ raw (ensured 𝓤 H A publish.ended (publish.clauses 𝓤 H A mem run) (ν₂ ∷ [], (κ₃, tt)) (xw l₈ δ₂ (last-words zs), (r .events, (xe, tt))) tt r₂))))
+        (id⊢ 𝓤 _) $
         await ! tt $ pick ! (λ r₂. split ! $ move ! (1 ∷ []) $
         use1 W (some (λ (us : Unit {0} × (Unit {0} × (List Event × Unit {0}))). ‵ (lasts publish.ended (ν₂ ∷ [], (κ₃, tt))
-        (xw l₈ δ₂ (w-of zs), (r .events, (xe, tt))) us) ⊛ raw (fact 𝓤 (us .1 .1 .0 ≡ published (w-of zs) (r .events) m)))) (id⊢ 𝓤 _) $
+        (xw l₈ δ₂ (last-words zs), (r .events, (xe, tt))) us) ⊛ raw (fact 𝓤 (us .1 .1 .0 ≡ published (last-words zs) (r .events) m)))) (id⊢ 𝓤 _) $
         pick ! (λ us.
-        split ! $ move ! (1 ∷ []) $ heard ! (us .1 .1 .0 ≡ published (w-of zs) (r .events) m) (λ e₂. fsplit ! $ move ! (1 ∷ []) $ fsplit ! $ move ! (1 ∷ []) $
+        split ! $ move ! (1 ∷ []) $ heard ! (us .1 .1 .0 ≡ published (last-words zs) (r .events) m) (λ e₂. fsplit ! $ move ! (1 ∷ []) $ fsplit ! $
+        move ! (1 ∷ []) $
         fsplit ! $ move ! (0 ∷ []) $ fsplit ! $ move ! (1 ∷ []) $ feqL ! (λ le. move ! (4 ∷ []) $ split ! $ move ! (1 ∷ []) $ feqL ! (λ u.
         land ! (here !) (init ! 32 refl (subst (λ (v : Val). Holds (hasTy tyUnit v) × WT v) (sym (ap only u)) (tt, tt))) $
         -- the memory comes back, as room for the array
         move ! (0 ∷ []) $ split ! $ lft-end ! tt $ move ! (0 ∷ 6 ∷ []) $ lent-back ! tt $ fsplit ! $ drop ! $
-        use1 W (‵ (cells (in-memory u32) (w-of zs) l₈ 0)) (whole-in 𝓤 H A W u32 (w-of zs) l₈ 0) $
-        use1 W (‵ (froom (tyArray (tyInt w32) (length (w-of zs))) l₈ 0)) (cells-room 𝓤 H A W (w-of zs) l₈ 0) $
+        use1 W (‵ (cells (in-memory u32) (last-words zs) l₈ 0)) (whole-in 𝓤 H A W u32 (last-words zs) l₈ 0) $
+        use1 W (‵ (froom (tyArray (tyInt w32) (length (last-words zs))) l₈ 0)) (cells-room 𝓤 H A W (last-words zs) l₈ 0) $
         rewrite ! 0 (λ (k : ℕ). ‵ (froom (tyArray (tyInt w32) k) l₈ 0)) lw refl $ move ! (1 ∷ []) $ split ! $
         -- the end
         assigns ! (of-opd ! (value ! 49 refl)) (here !) (init ! 68 refl wt) $ returns ! (look ! 68 refl) $ forget ! 25 refl $ forget ! 27 refl $
@@ -379,8 +387,8 @@ module _ {M : Type 1} (𝓤 : URA M) (H : Heap 𝓤) (A : Atoms 𝓤) (W : Given
         move ! (28 ∷ 29 ∷ []) $ free1 ! $ move ! (26 ∷ 27 ∷ []) $ free1 ! $ move ! (24 ∷ 25 ∷ []) $ free1 ! $ free0 ! $
         move ! (6 ∷ 1 ∷ []) $ join ! $ move ! (1 ∷ 0 ∷ []) $ join ! $ move ! (5 ∷ 0 ∷ []) $ join ! $ move ! (5 ∷ 0 ∷ []) $ join ! $ move ! (5 ∷ 0 ∷ []) $
         join ! $ keep ! (0 ∷ 15 ∷ 14 ∷ 7 ∷ 1 ∷ 6 ∷ []) $
-        by ! (exits r is (o-of zs) (us .1 .1 .0) (k-of zs)
-        (subst (λ (l : List Event). Promised r (o-of zs) l (k-of zs)) (sym e₂) e) lo le lk))))))))))))))))))))))))))))))))))))))))))
+        by ! (exits r is (last-out zs) (us .1 .1 .0) (last-work zs)
+        (subst (λ (l : List Event). Promised r (last-out zs) l (last-work zs)) (sym e₂) e) lo le lk))))))))))))))))))))))))))))))))))))))))))
 
 module _ {M : Type 1} (𝓤 : URA M) (H : Heap 𝓤) (A : Atoms 𝓤) (W : Given 𝓤 H A) (mem : Memory → SProp 𝓤) (run : Routine → Fun 𝓤) (𝓣 : Tables 𝓤 H)
     (known-staged : Triple 𝓤 (𝓣 .C #events·staged) (Staged 𝓤 H A mem run)) (known-publish : Triple 𝓤 (𝓣 .C #events·publish) (Publish 𝓤 H A mem run)) where

@@ -103,15 +103,17 @@ module _ {M : Type 1} (𝓤 : URA M) (H : Heap 𝓤) (A : Atoms 𝓤) (mem : Mem
 abbrev Lasts : Type 0
 Lasts = Unit {0} × (Unit {0} × (Unit {0} × (Unit {0} × (List ℕ × (List Event × (List ℕ × Unit {0}))))))
 
-abbrev o-of : Lasts → List ℕ
-o-of zs = zs .1 .1 .1 .1 .0
+abbrev last-out : Lasts → List ℕ
+last-out zs = zs .1 .1 .1 .1 .0
 
-abbrev e-of : Lasts → List Event
-e-of zs = zs .1 .1 .1 .1 .1 .0
+abbrev last-events : Lasts → List Event
+last-events zs = zs .1 .1 .1 .1 .1 .0
 
-abbrev k-of : Lasts → List ℕ
-k-of zs = zs .1 .1 .1 .1 .1 .1 .0
+abbrev last-work : Lasts → List ℕ
+last-work zs = zs .1 .1 .1 .1 .1 .1 .0
 
+-- What is passed: references x.., of which g.. says that their elements have room, and s.. are the machine's values (t table, x text, o out, e events,
+-- k work, r report), with a lifetime and a share of its token for each; the width wi and the limit li.
 module _ {M : Type 1} (𝓤 : URA M) (H : Heap 𝓤) (A : Atoms 𝓤) (W : Given 𝓤 H A) (mem : Memory → SProp 𝓤) (run : Routine → Fun 𝓤) (κ₀ κ₁ κ₂ κ₃ κ₄ κ₅ : Lft)
     (q₀ q₁ q₂ q₃ q₄ q₅ : Share)
     (xt xx : RefT (List ℕ)) (wi li : ℕ) (xo : RefT (List ℕ)) (xe : RefT (List Event)) (xk xr : RefT (List ℕ))
@@ -332,9 +334,10 @@ module _ {M : Type 1} (𝓤 : URA M) (H : Heap 𝓤) (A : Atoms 𝓤) (W : Given
         use1 W (later (some (λ (r : Report). (lay-tokens ⊛ ‵ (D.the-row .own r (w₂ ∷ [])))
         ⊛ raw (ensured 𝓤 H A lay.ended (lay.clauses 𝓤 H A mem run) lay-κs (as-layout l) tt r)))) (id⊢ 𝓤 _) $
         await ! tt $ take-up ! (λ r. split ! $ move ! (1 ∷ []) $
-        use1 W (some (λ (zs : Lasts). ‵ (lasts lay.ended lay-κs (as-layout l) zs) ⊛ raw (fact 𝓤 (Called (asks l) r (o-of zs) (e-of zs) (k-of zs))))) (id⊢ 𝓤 _) $
+        use1 W (some (λ (zs : Lasts). ‵ (lasts lay.ended lay-κs (as-layout l) zs)
+        ⊛ raw (fact 𝓤 (Called (asks l) r (last-out zs) (last-events zs) (last-work zs))))) (id⊢ 𝓤 _) $
         take-up ! (λ zs.
-        split ! $ move ! (1 ∷ []) $ heard ! (Called (asks l) r (o-of zs) (e-of zs) (k-of zs)) (λ called. fsplit ! $ move ! (1 ∷ []) $ fsplit ! $
+        split ! $ move ! (1 ∷ []) $ heard ! (Called (asks l) r (last-out zs) (last-events zs) (last-work zs)) (λ called. fsplit ! $ move ! (1 ∷ []) $ fsplit ! $
         move ! (1 ∷ []) $ fsplit ! $ move ! (1 ∷ []) $ fsplit ! $ move ! (1 ∷ []) $ fsplit ! $ move ! (1 ∷ []) $ fsplit ! $ move ! (1 ∷ []) $ fsplit ! $
         move ! (3 ∷ []) $ fsplit ! $ move ! (1 ∷ []) $ feqL ! (λ lo. move ! (3 ∷ []) $ fsplit ! $ move ! (1 ∷ []) $ feqL ! (λ le. move ! (2 ∷ []) $ fsplit ! $
         move ! (1 ∷ []) $ feqL ! (λ lk. move ! (8 ∷ []) $ split ! $ move ! (1 ∷ []) $
@@ -373,7 +376,7 @@ module _ {M : Type 1} (𝓤 : URA M) (H : Heap 𝓤) (A : Atoms 𝓤) (W : Given
         move ! (27 ∷ 28 ∷ []) $ free1 ! $ free0 ! $
         move ! (0 ∷ 1 ∷ []) $ join ! $ move ! (4 ∷ 0 ∷ []) $ join ! $ move ! (4 ∷ 0 ∷ []) $ join ! $ move ! (4 ∷ 0 ∷ []) $ join ! $ move ! (4 ∷ 0 ∷ []) $
         join ! $ move ! (4 ∷ 0 ∷ []) $ join ! $ keep ! (0 ∷ 14 ∷ 13 ∷ 7 ∷ 6 ∷ 5 ∷ 1 ∷ []) $
-        by ! (exits r ga (o-of zs) (e-of zs) (k-of zs) (ts .1 .0)
+        by ! (exits r ga (last-out zs) (last-events zs) (last-work zs) (ts .1 .0)
         (exported asRecords (asks li) n (length (xe .now)) l is-limit called is-told) lo le lk lr)))))))))))))))))))))))))))))))))))))))))
 
 module _ {M : Type 1} (𝓤 : URA M) (H : Heap 𝓤) (A : Atoms 𝓤) (W : Given 𝓤 H A) (mem : Memory → SProp 𝓤) (run : Routine → Fun 𝓤) (𝓣 : Tables 𝓤 H)
