@@ -2,7 +2,7 @@
 //
 // The engine notes its events as words; the functions here, proved by walks of their code, are all that write records.
 // A record's size stands in one place, `rules::EVENT_WORDS` with `eventWords` of rules' specs. A field more is that number, a field of `Event`, a
-// line of `none` and `record_at`, and one of `eventAt`, `none` and `recordOf` in specs/.
+// line of `none`, `clear` and `record_at`, and one of `none`, `eventAt` and `recordOf` in specs/.
 use layout::Report;
 use rules::EVENT_WORDS;
 use table::NodeNo;

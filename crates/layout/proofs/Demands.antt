@@ -26,7 +26,7 @@ use Rattle.layout.specs.Called.{given, asWords, Called, reported, defaul
 use Rattle.layout.specs.Demands.{Demand1, Sizes, ByOneLaw, Unrefused, Demand3}
 use Rattle.layout.specs.declared.Report.{Report}
 use Rattle.layout.proofs.Words.{words-front, words-injective}
-use Rattle.layout.proofs.Whole.{call-sizes, call-fault, call-run, buffers-of}
+use Rattle.layout.proofs.Whole.{call-sizes, call-fault, call-run, bounded}
 use Rattle.layout.proofs.Returned as returned
 
 -- words are a form of events
@@ -88,7 +88,7 @@ module _ (table text : List ℕ) (width limit room size work : ℕ) (r : Report)
   oversized ne = by (buffersRight g) refl
     where
       by : (b : Bool) → buffersRight g ≡ b → reported r out noted ≡ refusal 1 0
-      by true e = let b = buffers-of g e in absurd (ne (record { output = b .0; events = b .1; area = b .2; columns = b .3; steps = b .4 }))
+      by true e = let b = bounded g e in absurd (ne (record { output = b .room; events = b .slots; area = b .work; columns = b .width; steps = b .limit }))
       by false e = demand-2 ∙ call-sizes g e
 
 -- ---- two calls

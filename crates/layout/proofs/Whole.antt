@@ -6,7 +6,7 @@
 use mathlib.Core.Path.{_≡_, sym, ap, _∙_}
 use Prim.Native.Nat.{ℕ, _-_, _*_, _/_, _≤_, _<_}
 use native.Mathlib.Omega.{arith}
-use mathlib.Core.Bool.{true, false, _&&_}
+use mathlib.Core.Bool.{Bool, true, false, _&&_}
 use mathlib.Core.List.{List}
 use lib.ListN.{length, take, replicate}
 use lib.Seq.{length-take-le}
@@ -66,13 +66,31 @@ module _ {g : Given} {r : Report} {out noted : List ℕ} where
 
 -- ---- the run
 
-pub buffers-of : (g : Given) → buffersRight g ≡ true → (g .room ≤ 65536) × (g .slots ≤ 4096) × (16384 ≤ g .work) × (g .width ≤ 65535) × (g .limit ≤ 100000000)
-buffers-of g h =
-    let b = and-true (leb (g .room) 65536 && leb (g .slots) 4096 && leb 16384 (g .work) && leb (g .width) 65535) (leb (g .limit) 100000000) h in
-    let c = and-true (leb (g .room) 65536 && leb (g .slots) 4096 && leb 16384 (g .work)) (leb (g .width) 65535) (b .0) in
-    let d = and-true (leb (g .room) 65536 && leb (g .slots) 4096) (leb 16384 (g .work)) (c .0) in
-    let e = and-true (leb (g .room) 65536) (leb (g .slots) 4096) (d .0) in
-    (leb-true _ _ (e .0), leb-true _ _ (e .1), leb-true _ _ (d .1), leb-true _ _ (c .1), leb-true _ _ (b .1))
+-- the bounds that answer 1 is about, besides those of table and text
+pub record Bounded (g : Given) : Type 0 where
+  pub room : g .room ≤ 65536
+  pub slots : g .slots ≤ 4096
+  pub work : 16384 ≤ g .work
+  pub width : g .width ≤ 65535
+  pub limit : g .limit ≤ 100000000
+
+pub bounded : (g : Given) → buffersRight g ≡ true → Bounded g
+bounded g right =
+    let room : Bool = leb (g .room) 65536 in
+    let slots : Bool = leb (g .slots) 4096 in
+    let work : Bool = leb 16384 (g .work) in
+    let width : Bool = leb (g .width) 65535 in
+    let four = and-true (room && slots && work && width) (leb (g .limit) 100000000) right in
+    let three = and-true (room && slots && work) width (four .0) in
+    let two = and-true (room && slots) work (three .0) in
+    let one = and-true room slots (two .0) in
+    record {
+      room = leb-true _ _ (one .0);
+      slots = leb-true _ _ (one .1);
+      work = leb-true _ _ (two .1);
+      width = leb-true _ _ (three .1);
+      limit = leb-true _ _ (four .1);
+    }
 
 -- what is lent: the buffers of output, events and work as they stand
 pub record Lent : Type 0 where
@@ -97,17 +115,17 @@ module _ (l : Lent) (right : buffersRight (asks l) ≡ true) (sound : check (l .
   pub start-of : Start (l .table) (l .text) (l .out) (l .noted) (l .area) (l .width) (nodes l)
   start-of =
       let v = valid-if-zero (l .table) (l .text) sound in
-      let b = buffers-of (asks l) right in
+      let b = bounded (asks l) right in
       record {
         valid = all-sound-of-check (l .table) (l .text) sound;
         some = omega (arith, v .some, v .fours);
         words = omega arith;
         small = omega (arith, v .words);
         texts = v .bytes;
-        room = b .0;
-        slots = omega (arith, b .1);
-        area = b .2;
-        width = b .3;
+        room = b .room;
+        slots = omega (arith, b .slots);
+        area = b .work;
+        width = b .width;
       }
 
   pub run-decided : {r : End} {out′ noted′ : List ℕ} → Laid (l .table) (l .text) (l .out) (l .noted) (l .width) (l .limit) (nodes l) r out′ noted′
