@@ -68,7 +68,7 @@ fn soiled(words: &[u32], from: usize) -> u32 {
 // Writes how a run ended and what its buffers hold, the output as words.
 fn report(r: Report, out: &[u32], events: &[u32], work: &[u32], name: &[u8]) {
     let used = least(r.used as usize, out.len());
-    let marked = least(r.marks as usize * EVENT_WORDS, events.len());
+    let marked = least(r.events as usize * EVENT_WORDS, events.len());
     write_number(r.answer);
     write_number(r.place.0);
     write_number(r.steps);

@@ -132,7 +132,7 @@ fn lay_out(table: &[u32], text: &[u8], print: i32, tell: i32) -> bool {
         return false;
     }
     let used = r.used as usize;
-    let words = r.marks as usize * EVENT_WORDS;
+    let words = r.events as usize * EVENT_WORDS;
     print_whole(front(&out, used), words_front(&events, words), print, tell)
 }
 
