@@ -2,24 +2,29 @@
 --     taken-is                     the room that a page takes
 --     written-full, written-on     bytes that don't fit, and bytes that were put behind those used
 --     noted-full, noted-on         an event with no record left for it, and one that was stored
+--     on-says, full-says           what an answer says of the test and of the page
 --     before-kept                  a page reads as before where the bytes and events before p are kept and p grew from it
 --     put-back                     a page that p grew from is cut out of p
 -- Assumes nothing.
 use mathlib.Core.Path.{_≡_, refl, sym, ap, _∙_}
 use Prim.Native.Nat.{ℕ, suc, _+_, _*_, _/_, _≤_, _<_}
 use native.Mathlib.Omega.{arith}
+use mathlib.Core.Bool.{Bool, true, false}
 use mathlib.Core.List.{List, [], _∷_, _++_}
 use lib.ListN.{length, take, drop, replicate, length-take, length-drop, length-append, length-replicate, length-set}
 use lib.Seq.{length-take-le, take-take, take-append-le}
+use lib.Dec.{leb, ltb}
 use borrow.Author.Tests.{le-leb, lt-leb, lt-ltb, le-ltb}
+use Rattle.choice.specs.Pick.{pick}
 use Rattle.buffer.specs.Run as run
 use Rattle.buffer.proofs.Put.{take-put}
 use Rattle.rules.specs.Call.{eventWords}
 use Rattle.rules.specs.Layout.{taken, marked}
 use Rattle.rules.specs.Layout as rules
 use Rattle.page.specs.Reading.{eventsOf, pageOf, takes, Within, Before}
-use Rattle.page.specs.Putting.{Written, Noted, cutTo}
+use Rattle.page.specs.Putting.{on, full, answerOf, Written, Noted, cutTo}
 use Rattle.page.specs.declared.Page.{Page}
+use Rattle.page.specs.declared.Put.{Put}
 use Rattle.page.specs.declared.Put.the-variants.{On, Full}
 use Rattle.page.proofs.Events.{length-events, events-front, events-kept, events-more, stored}
 
@@ -94,6 +99,32 @@ module _ (p : Page) (ev : List ℕ) (mark label : ℕ) where
         within = λ out in-p. record { bytes = in-p .bytes; events = simp length-set (omega arith) };
         kept = events-kept ev (p .events) (p .used) mark label one-left;
       }
+
+-- ---- what an answer says
+
+pub on-says : {p q : rules.Page} (fits : Bool) → on p ≡ pick fits (on q) full → (fits ≡ true) × (p ≡ q)
+on-says true e = (refl, cc)
+on-says false e = let z : _≡_ {A = ℕ} 0 1 = cc in absurd (omega arith)
+
+pub full-says : (q : rules.Page) (fits : Bool) → full ≡ pick fits (on q) full → fits ≡ false
+full-says q true e = let z : _≡_ {A = ℕ} 0 1 = cc in absurd (omega arith)
+full-says q false e = refl
+
+module _ {p : Page} {out out′ : List ℕ} {r : Put} {grown : rules.Page → rules.Page} (w : Written p out r out′ grown) where
+  pub written-full-says : r ≡ Full → (ev : List ℕ) → leb (taken (grown (pageOf p out ev))) (length out) ≡ false
+  written-full-says e ev = full-says _ _ (sym (ap (λ (x : Put). answerOf x out′ ev) e) ∙ w .answer ev)
+
+  pub written-on-says : (q : Page) → r ≡ On q → (ev : List ℕ)
+      → (leb (taken (grown (pageOf p out ev))) (length out) ≡ true) × (pageOf q out′ ev ≡ grown (pageOf p out ev))
+  written-on-says q e ev = on-says _ (sym (ap (λ (x : Put). answerOf x out′ ev) e) ∙ w .answer ev)
+
+module _ {p : Page} {ev ev′ : List ℕ} {r : Put} {grown : rules.Page → rules.Page} (n : Noted p ev r ev′ grown) (out : List ℕ) (in-p : Within p out ev) where
+  pub noted-full-says : r ≡ Full → ltb (length (pageOf p out ev .events)) (length ev / eventWords) ≡ false
+  noted-full-says e = full-says _ _ (sym (ap (λ (x : Put). answerOf x out ev′) e) ∙ n .answer out in-p)
+
+  pub noted-on-says : (q : Page) → r ≡ On q
+      → (ltb (length (pageOf p out ev .events)) (length ev / eventWords) ≡ true) × (pageOf q out ev′ ≡ grown (pageOf p out ev))
+  noted-on-says q e = on-says _ (sym (ap (λ (x : Put). answerOf x out ev′) e) ∙ n .answer out in-p)
 
 -- ---- a page from before
 
