@@ -15,9 +15,8 @@ use Rattle.machine.specs.Waiting.{Entry, node}
 use Rattle.machine.specs.Turn.{Env, Turned, on, stop, turn, visit}
 use Rattle.machine.specs.Well.{weight}
 use Rattle.machine.proofs.Kept.{Next, turn-next, nested-le}
-use Rattle.waiting.specs.Stack.{modeOf}
-use Rattle.waiting.specs.declared.Hand.{Hand}
-use Rattle.lay.specs.State.{top}
+use Rattle.waiting.specs.Stack.{modeOf, top}
+use Rattle.waiting.specs.declared.Due.{Due}
 use Rattle.render.specs.Visit.{again, Held, Came}
 
 -- one turn after the others
@@ -46,11 +45,11 @@ nest-turn : (E : Env) (p : Page) (left : ℕ) (o : Bool) (n a k i : ℕ) (way : 
 unfolding turn
 nest-turn E p left o n a k i way m w e = ap (λ (v : Node). visit E n v i m p left o w) e
 
-pub came-start : (T : List ℕ) (steps : ℕ) (start : Hand) → Came T steps start (record { left = steps; hand = start })
+pub came-start : (T : List ℕ) (steps : ℕ) (start : Due) → Came T steps start (record { left = steps; due = start })
 came-start T steps start = record { more = 0; said = λ E p o w e. refl }
 
--- the Nest in hand
-module _ (T : List ℕ) (h : Hand) (f : Held T h) (kind : getD T (h .node .0 * 4) 0 ≡ 4) where
+-- the Nest due
+module _ (T : List ℕ) (h : Due) (f : Held T h) (kind : getD T (h .node .0 * 4) 0 ≡ 4) where
   abbrev n : ℕ
   n = h .node .0
 
@@ -65,7 +64,7 @@ module _ (T : List ℕ) (h : Hand) (f : Held T h) (kind : getD T (h .node .0 * 4
 
   -- its child stands next to it
   module _ (i : Indent) (child : getD T (n * 4 + 1) 0 + 1 ≡ n) (ei : i .0 ≡ nested (wayOf (getD T (n * 4 + 3) 0)) (getD T (n * 4 + 2) 0) (h .indent .0)) where
-    abbrev lower : Hand
+    abbrev lower : Due
     lower = record { node = record { 0 = n - 1 }; indent = i; mode = h .mode }
 
     pub held-next : Held T lower
@@ -76,7 +75,7 @@ module _ (T : List ℕ) (h : Hand) (f : Held T h) (kind : getD T (h .node .0 * 4
           indent = omega (arith, f .indent, sound .1, nested-le (wayOf (getD T (n * 4 + 3) 0)) (getD T (n * 4 + 2) 0) (h .indent .0));
         }
 
-    pub came-next : (steps left : ℕ) (start : Hand) → Came T steps start (record { left = left; hand = h }) → 0 < left → Came T steps start (record { left = left - 1; hand = lower })
+    pub came-next : (steps left : ℕ) (start : Due) → Came T steps start (record { left = left; due = h }) → 0 < left → Came T steps start (record { left = left - 1; due = lower })
     came-next steps left start c some =
         let e : left ≡ suc (left - 1) = omega arith in
         let a : getD T (n * 4 + 1) 0 ≡ n - 1 = omega arith in

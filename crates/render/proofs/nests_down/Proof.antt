@@ -8,10 +8,10 @@ use Rattle.render.proofs.nests_down.Statement.{statement}
 use Rattle.render.proofs.nests_down.Tie as tie
 
 abbrev Inv-loop : tie.InvT-loop
-Inv-loop table steps left₀ hand₀ left hand = Held table hand × Came table left₀ hand₀ (record { left = left; hand = hand })
+Inv-loop table steps left₀ hand₀ left due = Held table due × Came table left₀ hand₀ (record { left = left; due = due })
 
 abbrev μ-loop : tie.MeasureT-loop
-μ-loop table steps left₀ hand₀ left hand = left
+μ-loop table steps left₀ hand₀ left due = left
 
 loop-holds : tie.Need-loop-holds Inv-loop μ-loop
 loop-holds c = (c .before .pre, came-start _ _ _)
