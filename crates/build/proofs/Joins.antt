@@ -27,7 +27,7 @@ use Rattle.build.specs.Constructors.{has, hasAll, appendMade}
 use Rattle.build.proofs.Grow.{Whole, Grown, same, then, whole-grown, more-nodes, add-grown, append-grown, joined-grown}
 use Rattle.build.proofs.Words.{old-word, new-word, append-present}
 use Rattle.build.proofs.Choices.{append-left, append-right, append-both}
-use Rattle.build.proofs.Stand.{Stands, stands-counted, Went, taken, Begun, step, finish}
+use Rattle.build.proofs.Stand.{Stands, stands-counted, Went, made-told, taken, Begun, step, finish}
 
 -- all of a list are below N
 abbrev pub Below : ℕ → List ℕ → Type 0
@@ -163,8 +163,9 @@ module _ {c₀ : Counts} {table₀ text₀ : List ℕ} {present amount right : B
   join-along [] b a = along-end begun a
   join-along {c} {n} (k ∷ ks) {table} {text} b a =
       let x = appendMade c table text (n .0) k in
-      let went = along-went begun a (b .0) {r = x .made} {table′ = x .table} {text′ = x .text} refl in
-      let next = along-next begun a (b .0) {r = x .made} {table′ = x .table} {text′ = x .text} refl (went .answer) in
+      let told = made-told c table text (has c (n .0) && has c k) true true (λ s. append s (n .0) k) in
+      let went = along-went begun a (b .0) {r = x .made} {table′ = x .table} {text′ = x .text} told in
+      let next = along-next begun a (b .0) {r = x .made} {table′ = x .table} {text′ = x .text} told (went .answer) in
       ap (λ (m : Made). joinAll m (x .table) (x .text) ks) (went .answer) ∙ join-along ks (b .1) next
 
 -- the loop from its first answer

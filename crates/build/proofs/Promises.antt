@@ -27,7 +27,7 @@ use Rattle.build.specs.Documents.{appendDoc, groupDoc, nestDoc, textDoc,
 use Rattle.build.specs.Promise.{docAt, Promise}
 use Rattle.build.proofs.Grow.{more-nodes, more-bytes}
 use Rattle.build.proofs.Room.{passed, room-of}
-use Rattle.build.proofs.Stand.{stands-counted, start, taken, part}
+use Rattle.build.proofs.Stand.{stands-counted, start, taken, made-told, part}
 use Rattle.build.proofs.Clean.{Clean, docOf, clean-none}
 use Rattle.build.proofs.Joins.{below-of}
 use Rattle.build.proofs.Means.{Makes, still, nil-makes, hardline-makes, fail-makes, flatAlt-makes, union-makes, align-makes, annotate-makes, group-makes, nest-makes, append-makes}
@@ -51,7 +51,7 @@ module _ (c : Counts) (table text : List ℕ) where
       let clean : Clean s₀ = record { whole = first .whole; faults = clean-of (s₀ .table) (s₀ .text) (c .nodes) (ap (λ (x : Fault). x .answer) v) } in
       let m = makes clean (p .operands) (p .amounts) (p .texts) in
       let o = made c table text present amount right f in
-      let went = part first f (m .grown) (room-of (b .draft .counts) (more-nodes (m .grown)) (more-bytes (m .grown)) p) present amount right (p .operands) (p .amounts) (p .texts) {m = o .made} {table′ = o .table} {text′ = o .text} refl in
+      let went = part first f (m .grown) (room-of (b .draft .counts) (more-nodes (m .grown)) (more-bytes (m .grown)) p) present amount right (p .operands) (p .amounts) (p .texts) {m = o .made} {table′ = o .table} {text′ = o .text} (made-told c table text present amount right f) in
       let t = taken went e in
       let is : counted c′ (o .table) (o .text) ≡ b .draft = stands-counted (t .0) in
       record {

@@ -75,6 +75,12 @@ start c table text n b =
       bytes-inside = b;
     }
 
+-- an outcome's number is its answer's
+settled-told : (a : Asked) (b : Built) (table text : List ℕ) → let o = settled a b table text in outcome (o .made) (o .table) (o .text) ≡ o
+unfolding added
+settled-told Granted b table text = refl
+settled-told (Denied why) b table text = refl
+
 -- a part gave what it was asked for
 pub record Went (table₀ text₀ : List ℕ) (b : Built) (m : Made) (table text : List ℕ) : Type 0 where
   pub answer : m ≡ Node (b .draft .counts) (record { 0 = b .node })
@@ -91,6 +97,10 @@ module _ (c : Counts) (table text : List ℕ) (present amount right : Bool) (f :
   pub made-denied : (nodes used : ℕ) (why : Why) → f (counted c table text) .draft .counts .nodes ≡ nodes → f (counted c table text) .draft .counts .bytes ≡ used → asked-of nodes used ≡ Denied why → outcome (Refused why) table text ≡ made c table text present amount right f
   unfolding made
   made-denied nodes used why n u d = rw (n, u, d) refl
+
+  pub made-told : let o = made c table text present amount right f in outcome (o .made) (o .table) (o .text) ≡ o
+  unfolding made
+  made-told = let b = f (counted c table text) in settled-told (asked-of (b .draft .counts .nodes) (b .draft .counts .bytes)) b table text
 
   -- parts that come to the same
   pub made-same : (g : Draft → Built) → f (counted c table text) ≡ g (counted c table text) → made c table text present amount right f ≡ made c table text present amount right g

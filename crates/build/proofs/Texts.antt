@@ -1,11 +1,15 @@
 -- Text, a node and its bytes: what is asked, what is answered and what is left come to the definition.
+--     text-counts, text-present     one node, its bytes, and a node that is there
+--     text-denied, text-node-room, text-byte-room     refused; room for the node and for its bytes
+--     text-empty, text-full         a Nil, or the bytes behind those that stand
+--     blanks-length, blanks-made    a Text of so many blanks
 -- Assumes nothing.
 use Prim.Native.Nat.{ℕ, _+_, _*_, _≤_, _<_}
 use native.Mathlib.Omega.{arith}
 use mathlib.Core.Path.{_≡_, refl, sym, ap, _∙_}
 use mathlib.Core.Bool.{Bool, true, false}
 use mathlib.Core.List.{List, [], _∷_, _++_}
-use lib.ListN.{length, take, drop, length-append, length-take}
+use lib.ListN.{length, take, drop, replicate, length-append, length-take, length-replicate}
 use lib.Dec.{eqb}
 use borrow.Author.Tests.{eqb-true, eq-eqb, ne-eqb}
 use Rattle.choice.specs.Pick.{pick}
@@ -17,7 +21,9 @@ use Rattle.build.specs.declared.Asked.{Asked}
 use Rattle.build.specs.declared.Asked.the-variants.{Granted, Denied}
 use Rattle.build.specs.Draft.{Draft, Built, countsOf, counted, over, add, write}
 use Rattle.build.specs.Parts.{nil, text}
-use Rattle.build.specs.Outcome.{asked, outcome, added, made}
+use Rattle.build.specs.Outcome.{Outcome, asked, outcome, added, made}
+use Rattle.build.specs.Constructors.{textMade}
+use Rattle.buffer.proofs.Put.{take-replicate}
 use Rattle.build.proofs.Choices.{text-none, text-some}
 use Rattle.build.proofs.Room.{Allowed, allowed}
 use Rattle.build.proofs.Stand.{over-front, made-granted, made-denied}
@@ -93,3 +99,17 @@ module _ (c : Counts) (table letters bytes : List ℕ) (columns : ℕ) (right : 
         let size : length (take (c .bytes) letters ++ bytes) ≡ c .bytes + length bytes = simp (length-append, length-take) (let b = facts .counted-bytes in omega arith) in
         let u = l ∙ ap (λ (n : ℕ). take (c .bytes) letters ++ bytes ++ drop n letters) (sym size) in
         text-is (add (write s₀ bytes) 6 (c .bytes) (length bytes) columns) (text-some s₀ bytes columns (ne-eqb (length bytes) 0 some)) (λ i. outcome (e i) (t i) (u i))
+
+-- ---- so many of a thousand blanks
+
+module _ (by : ℕ) (few : by ≤ 1000) where
+  pub blanks-length : by ≡ length {A = ℕ} (take by (replicate 1000 32))
+  blanks-length = sym (ap length (take-replicate by 1000 32 few) ∙ length-replicate {A = ℕ} by 32)
+
+  module _ (c : Counts) (table letters : List ℕ) where
+    pub blanks-made : {columns : ℕ} → columns ≡ by → {r : Outcome} → r ≡ textMade c table letters (take by (replicate 1000 32)) columns
+        → r ≡ textMade c table letters (replicate by 32) by
+    blanks-made is e =
+        e
+        ∙ ap (textMade c table letters (take by (replicate 1000 32))) is
+        ∙ ap (λ (l : List ℕ). textMade c table letters l by) (take-replicate by 1000 32 few)
