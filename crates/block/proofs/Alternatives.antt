@@ -1,4 +1,4 @@
--- What the alternatives of a block make of a sheet without a fault, and the promise of the whole.
+-- What the alternatives of a block make of a draft without a fault, and the promise of the whole.
 --     alternative-makes, unions-makes, layouts-makes, block-makes, format-promise
 -- Assumes nothing.
 use Prim.Native.Nat.{ℕ, zero, suc, _≤_, _<_}
@@ -27,15 +27,15 @@ use Rattle.build.proofs.Means.{Makes, there, still, after, meaning, older-makes
 use Rattle.build.proofs.Compose.{docs-still}
 use Rattle.build.proofs.Promises.{promise}
 use Rattle.block.specs.declared.Block.{Block}
-use Rattle.affixes.specs.declared.Shared.{Shared}
-use Rattle.affixes.specs.Affixes.{bare, head, tail}
+use Rattle.block.specs.declared.Shared.{Shared}
+use Rattle.block.specs.Affixes.{bare, head, tail}
 use Rattle.block.specs.Block.{core, wraps, alternative, unions, layouts, blockOf, sizesRight, operands, formatMade}
 use Rattle.block.specs.Documents.{bareDoc, headDoc, tailDoc, coreDoc, wrapsDoc, alternativeDoc, unionsDoc, blockDoc}
 use Rattle.block.proofs.Layers.{below-take, below-drop}
 use Rattle.block.proofs.Meaning.{Stand, stand-still, below-still, bare-is, map-take, map-drop, map-length, head-makes, tail-makes, core-makes, wraps-makes}
 
 module _ (b : Block) (sh : Shared) (prefixes suffixes : List ℕ) (nests : List Bool) (p : b .amount .0 ≤ 1000) (w : b .way ≤ 1) where
-  -- the alternative's document over the documents of a sheet's nodes
+  -- the alternative's document over the documents of a draft's nodes
   abbrev there-doc : Draft → ℕ → Doc
   there-doc s split = alternativeDoc (b .amount .0) (b .way) (docOf s (b .body .0)) (map (docOf s) prefixes) (map (docOf s) suffixes) nests split
 

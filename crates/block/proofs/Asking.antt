@@ -28,9 +28,9 @@ use Rattle.build.proofs.Stand.{made-granted, made-denied, made-same}
 use Rattle.build.proofs.Joins.{below-of}
 use Rattle.block.specs.declared.Block.{Block}
 use Rattle.block.specs.Block.{layouts, blockOf, sizesRight, operands, least}
-use Rattle.affixes.specs.Run.{Ready}
-use Rattle.block.specs.Run.{Askable}
-use Rattle.affixes.proofs.Chain.{no-room, ran-older}
+use Rattle.block.specs.Run.{Ready}
+use Rattle.block.specs.Operands.{Askable}
+use Rattle.block.proofs.Chain.{no-room, ran-older}
 use Rattle.block.proofs.Starts.{layouts-adds, layouts-three}
 
 -- denied with fewer nodes: denied with more

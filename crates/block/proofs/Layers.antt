@@ -14,9 +14,9 @@ use Rattle.build.proofs.Grow.{more-nodes}
 use Rattle.build.proofs.Joins.{Below, below-more}
 use Rattle.build.proofs.Only.{Adds, adds-then, older-adds, pick-adds, union-adds, append-adds, nest-adds}
 use Rattle.block.specs.declared.Block.{Block}
-use Rattle.affixes.specs.declared.Shared.{Shared}
-use Rattle.affixes.specs.Affixes.{list, bare, guarded, head, tail}
-use Rattle.affixes.proofs.Layers.{stays-there, stay-below, list-adds, guarded-adds, grouped, head-adds, tail-adds}
+use Rattle.block.specs.declared.Shared.{Shared}
+use Rattle.block.specs.Affixes.{list, bare, guarded, head, tail}
+use Rattle.block.proofs.Heads.{stays-there, stay-below, list-adds, guarded-adds, grouped, head-adds, tail-adds}
 use Rattle.block.specs.Block.{nested, core, wrap, wraps, alternative, unions}
 
 -- ---- present nodes

@@ -25,13 +25,13 @@ use Rattle.build.proofs.Stand.{stands-counted, done}
 use Rattle.build.proofs.Joins.{Below, below-of, below-more}
 use Rattle.build.proofs.Only.{Adds, adds-then, union-adds}
 use Rattle.block.specs.declared.Block.{Block}
-use Rattle.affixes.specs.declared.Shared.{Shared}
+use Rattle.block.specs.declared.Shared.{Shared}
 use Rattle.block.specs.Block.{wrap, wraps, alternative, unions}
-use Rattle.affixes.specs.Run.{Ready, Ran}
-use Rattle.block.specs.Run.{Bodied, Hand}
-use Rattle.affixes.proofs.Layers.{of-below, stays-there}
+use Rattle.block.specs.Run.{Ready, Ran}
+use Rattle.block.specs.Operands.{Bodied, AllPresent}
+use Rattle.block.proofs.Heads.{of-below, stays-there}
 use Rattle.block.proofs.Layers.{below-drop, wrap-adds, wraps-adds, On, on-still, alternative-adds, unions-adds}
-use Rattle.affixes.proofs.Chain.{At, begin, ready, later, start-node, start-list, go, go-made, at, at-adds, stop, counted-node, shares-later, two}
+use Rattle.block.proofs.Chain.{At, begin, ready, later, start-node, start-list, go, go-made, at, at-adds, stop, counted-node, shares-later, two}
 use Rattle.block.proofs.Steps.{bodied-later}
 
 -- a run that has come to its end
@@ -133,11 +133,11 @@ module _ {c : Counts} {table text : List ℕ} (r : Ready c table text) {b : Bloc
 
 -- ---- unions
 
-pub on-hand : {c : Counts} {table text : List ℕ} {b : Block} {sh : Shared} {ps ss : List ℕ} → Ready c table text → Hand c b sh ps ss → On (counted c table text .counts .nodes) b sh ps ss
+pub on-hand : {c : Counts} {table text : List ℕ} {b : Block} {sh : Shared} {ps ss : List ℕ} → Ready c table text → AllPresent c b sh ps ss → On (counted c table text .counts .nodes) b sh ps ss
 on-hand {ps = ps} {ss = ss} r k =
     record { body = start-node r (k .bodied .body); none = start-node r (k .shares .none); guard = start-node r (k .shares .guard); before = start-list r ps (k .before); behind = start-list r ss (k .behind) }
 
-pub hand-later : {c : Counts} {table text : List ℕ} {s : Draft} {c₁ : Counts} {table₁ : List ℕ} {b : Block} {sh : Shared} {ps ss : List ℕ} → At c table text s c₁ table₁ → Hand c b sh ps ss → Hand c₁ b sh ps ss
+pub hand-later : {c : Counts} {table text : List ℕ} {s : Draft} {c₁ : Counts} {table₁ : List ℕ} {b : Block} {sh : Shared} {ps ss : List ℕ} → At c table text s c₁ table₁ → AllPresent c b sh ps ss → AllPresent c₁ b sh ps ss
 hand-later {c} {c₁ = c₁} {ps = ps} {ss = ss} a k =
     let l = later a in
     record {
@@ -165,7 +165,7 @@ pub alternative-turn : (c : Counts) (table text : List ℕ) (b : Block) (sh : Sh
 alternative-turn c table text b sh ps ss qs split h {m} {table₁} ran =
     subst (λ (j : ℕ). Ran c table text (alternative (counted c table text) b sh ps ss qs j) m table₁) (omega arith) ran
 
-module _ {c : Counts} {table text : List ℕ} (r : Ready c table text) {b : Block} {sh : Shared} {ps ss : List ℕ} (k : Hand c b sh ps ss) (qs : List Bool) (whole : Built) where
+module _ {c : Counts} {table text : List ℕ} (r : Ready c table text) {b : Block} {sh : Shared} {ps ss : List ℕ} (k : AllPresent c b sh ps ss) (qs : List Bool) (whole : Built) where
   abbrev first : Draft
   first = counted c table text
 
@@ -185,7 +185,7 @@ module _ {c : Counts} {table text : List ℕ} (r : Ready c table text) {b : Bloc
     abbrev joined : Built
     joined = union (other .draft) (n₁ .0) (other .node)
 
-    pub left-asks : Ready c₁ table₁ text × Hand c₁ b sh ps ss
+    pub left-asks : Ready c₁ table₁ text × AllPresent c₁ b sh ps ss
     left-asks = (ready (w .place), hand-later (w .place) k)
 
     on : On (s₁ .counts .nodes) b sh ps ss

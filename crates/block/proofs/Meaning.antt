@@ -1,4 +1,4 @@
--- What each layer of a block makes of a sheet without a fault: one without a fault, and a node that unfolds to its document.
+-- What each layer of a block makes of a draft without a fault: one without a fault, and a node that unfolds to its document.
 --     list-makes .. block-makes
 -- Assumes nothing.
 use Prim.Native.Nat.{ℕ, zero, suc, _≤_, _<_}
@@ -18,8 +18,8 @@ use Rattle.build.proofs.Says.{nil-is}
 use Rattle.build.proofs.Means.{Makes, there, still, after, meaning, older-makes, nest-makes, append-makes}
 use Rattle.build.proofs.Compose.{docs-still, grouped-makes, concat-makes}
 use Rattle.block.specs.declared.Block.{Block}
-use Rattle.affixes.specs.declared.Shared.{Shared}
-use Rattle.affixes.specs.Affixes.{list, allNil, bare, guarded, head, tail}
+use Rattle.block.specs.declared.Shared.{Shared}
+use Rattle.block.specs.Affixes.{list, allNil, bare, guarded, head, tail}
 use Rattle.block.specs.Block.{nested, core, wrap, wraps}
 use Rattle.block.specs.Documents.{allNilDoc, bareDoc, guardDoc, guardedDoc, headDoc, tailDoc, coreDoc, wrapDoc, wrapsDoc}
 

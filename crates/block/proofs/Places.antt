@@ -26,9 +26,9 @@ use Rattle.build.proofs.Stand.{same-words}
 use Rattle.build.proofs.Only.{Adds, made-whole, made-short}
 use Rattle.block.specs.declared.Block.{Block}
 use Rattle.block.specs.Block.{layouts}
-use Rattle.affixes.specs.Run.{Ready, Ran}
-use Rattle.block.specs.Run.{Askable}
-use Rattle.affixes.proofs.Chain.{At, start-node, start-list, at, no-fit, had-room}
+use Rattle.block.specs.Run.{Ready, Ran}
+use Rattle.block.specs.Operands.{Askable}
+use Rattle.block.proofs.Chain.{At, start-node, start-list, at, no-fit, had-room}
 use Rattle.block.proofs.Starts.{layouts-adds, layouts-three}
 
 -- new words laid over the lent table

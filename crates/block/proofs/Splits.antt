@@ -17,14 +17,14 @@ use Rattle.build.specs.Outcome.{outcome}
 use Rattle.build.specs.Constructors.{hasAll, appendMade}
 use Rattle.build.proofs.Only.{Adds, adds-then}
 use Rattle.block.specs.declared.Block.{Block}
-use Rattle.affixes.specs.declared.Shared.{Shared}
-use Rattle.affixes.specs.Affixes.{bare, head, tail}
+use Rattle.block.specs.declared.Shared.{Shared}
+use Rattle.block.specs.Affixes.{bare, head, tail}
 use Rattle.block.specs.Block.{core, wraps, alternative}
-use Rattle.affixes.specs.Run.{Ready, Shares, Ran}
-use Rattle.block.specs.Run.{Bodied, Hand}
-use Rattle.affixes.proofs.Layers.{of-below}
+use Rattle.block.specs.Run.{Ready, Shares, Ran}
+use Rattle.block.specs.Operands.{Bodied, AllPresent}
+use Rattle.block.proofs.Heads.{of-below}
 use Rattle.block.proofs.Layers.{below-take, below-drop, On, on-still, front-adds, middle-adds, wrapped-adds, back-adds, front-there, join-adds}
-use Rattle.affixes.proofs.Chain.{At, ready, go, go-made, at, stop, counted-node, counted-list, shares-later, two}
+use Rattle.block.proofs.Chain.{At, ready, go, go-made, at, stop, counted-node, counted-list, shares-later, two}
 use Rattle.block.proofs.Steps.{bodied-later}
 use Rattle.block.proofs.Loops.{on-hand}
 
@@ -32,7 +32,7 @@ use Rattle.block.proofs.Loops.{on-hand}
 pub rest-all : {A : Type 0} (xs : List A) (k : ℕ) → take (length xs - k) (drop k xs) ≡ drop k xs
 rest-all xs k = take-all (length xs - k) (drop k xs) (rw (length-drop k xs) (omega arith))
 
-module _ {c : Counts} {table text : List ℕ} (r : Ready c table text) {b : Block} {sh : Shared} {ps ss : List ℕ} (k : Hand c b sh ps ss) (qs : List Bool) (split : ℕ) where
+module _ {c : Counts} {table text : List ℕ} (r : Ready c table text) {b : Block} {sh : Shared} {ps ss : List ℕ} (k : AllPresent c b sh ps ss) (qs : List Bool) (split : ℕ) where
   abbrev s₀ : Draft
   s₀ = counted c table text
 

@@ -21,19 +21,19 @@ use Rattle.build.proofs.Grow.{more-nodes}
 use Rattle.build.proofs.Joins.{Below, below-more, below-of}
 use Rattle.build.proofs.Only.{Adds, adds-then, nil-adds, fail-adds, flatAlt-adds}
 use Rattle.block.specs.declared.Block.{Block}
-use Rattle.affixes.specs.declared.Shared.{Shared}
+use Rattle.block.specs.declared.Shared.{Shared}
 use Rattle.block.specs.Block.{alternative, unions, layouts}
-use Rattle.affixes.specs.Run.{Ready, Ran}
-use Rattle.block.specs.Run.{Hand, Even, Askable}
-use Rattle.affixes.proofs.Layers.{of-below, stays-there, stay-below}
+use Rattle.block.specs.Run.{Ready, Ran}
+use Rattle.block.specs.Operands.{AllPresent, Even, Askable}
+use Rattle.block.proofs.Heads.{of-below, stays-there, stay-below}
 use Rattle.block.proofs.Layers.{On, on-still, alternative-adds, unions-adds}
-use Rattle.affixes.proofs.Chain.{At, begin, ready, later, start-node, start-list, go, go-made, at, stop, counted-node, two}
+use Rattle.block.proofs.Chain.{At, begin, ready, later, start-node, start-list, go, go-made, at, stop, counted-node, two}
 use Rattle.block.proofs.Steps.{bodied-later}
 
 abbrev sharedOf : ℕ → ℕ → Shared
 sharedOf none guard = record { none = record { 0 = none }; guard = record { 0 = guard } }
 
--- the guard nodes of a sheet
+-- the guard nodes of a draft
 module _ (s : Draft) where
   abbrev b₁ : Built
   b₁ = nil s
@@ -144,7 +144,7 @@ module _ {c : Counts} {table text : List ℕ} (r : Ready c table text) {b : Bloc
           shared-is : record { none = n₁; guard = n₃ } ≡ sh s₀
           shared-is = let n = at r (d₁ s₀) so₁ x₁ .1 in λ i. record { none = record { 0 = n i }; guard = record { 0 = t₃ .1 i } }
 
-          hand : Hand c₃ b (record { none = n₁; guard = n₃ }) ps ss
+          hand : AllPresent c₃ b (record { none = n₁; guard = n₃ }) ps ss
           hand =
               let l = later (t₃ .0) in
               rw shared-is
@@ -155,7 +155,7 @@ module _ {c : Counts} {table text : List ℕ} (r : Ready c table text) {b : Bloc
                 behind = of-below c₃ ss (below-more ss l (below-of c ss (k .behind)));
               })
 
-          pub start-asks₄ : Ready c₃ table₃ text × Hand c₃ b (record { none = n₁; guard = n₃ }) ps ss × Even (length ps) ps ss qs
+          pub start-asks₄ : Ready c₃ table₃ text × AllPresent c₃ b (record { none = n₁; guard = n₃ }) ps ss × Even (length ps) ps ss qs
           start-asks₄ = (ready (t₃ .0), hand, k .even)
 
           module _ {m₄ : Made} {table₄ : List ℕ} (ran₄ : Ran c₃ table₃ text (alternative (counted c₃ table₃ text) b (record { none = n₁; guard = n₃ }) ps ss qs (length ps)) m₄ table₄) where
@@ -171,7 +171,7 @@ module _ {c : Counts} {table text : List ℕ} (r : Ready c table text) {b : Bloc
               t₄ : At c table text (b₄ s₀ b ps ss qs others the-body the-before the-behind .draft) c₄ table₄ × (n₄ .0 ≡ b₄ s₀ b ps ss qs others the-body the-before the-behind .node)
               t₄ = at r (adds-then (d₁₂₃ s₀) a₄) so₄ x₄
 
-              pub start-asks₅ : Ready c₄ table₄ text × Hand c₄ b (record { none = n₁; guard = n₃ }) ps ss × Even (length ps - 1) ps ss qs × (n₄ .0 < c₄ .nodes)
+              pub start-asks₅ : Ready c₄ table₄ text × AllPresent c₄ b (record { none = n₁; guard = n₃ }) ps ss × Even (length ps - 1) ps ss qs × (n₄ .0 < c₄ .nodes)
               start-asks₅ =
                   let l = later (t₄ .0) in (
                     ready (t₄ .0),

@@ -18,14 +18,14 @@ use Rattle.build.specs.Outcome.{outcome}
 use Rattle.build.specs.Constructors.{hasAll, appendMade}
 use Rattle.build.proofs.Only.{Adds, adds-then, append-adds}
 use Rattle.block.specs.declared.Block.{Block}
-use Rattle.affixes.specs.declared.Shared.{Shared}
-use Rattle.affixes.specs.Affixes.{list, guarded}
+use Rattle.block.specs.declared.Shared.{Shared}
+use Rattle.block.specs.Affixes.{list, guarded}
 use Rattle.block.specs.Block.{nested, core}
-use Rattle.affixes.specs.Run.{Ready, Shares, Ran}
-use Rattle.block.specs.Run.{Bodied}
-use Rattle.affixes.proofs.Layers.{stays-there, stay-below, list-adds, guarded-adds}
+use Rattle.block.specs.Run.{Ready, Shares, Ran}
+use Rattle.block.specs.Operands.{Bodied}
+use Rattle.block.proofs.Heads.{stays-there, stay-below, list-adds, guarded-adds}
 use Rattle.block.proofs.Layers.{nested-adds}
-use Rattle.affixes.proofs.Chain.{At, ready, later, start-node, start-list, go, go-made, at, stop, counted-node, counted-list, shares-later, two}
+use Rattle.block.proofs.Chain.{At, ready, later, start-node, start-list, go, go-made, at, stop, counted-node, counted-list, shares-later, two}
 
 module _ {c : Counts} {table text : List ℕ} {s : Draft} {c₁ : Counts} {table₁ : List ℕ} (a : At c table text s c₁ table₁) where
   pub bodied-later : {b : Block} → Bodied c b → Bodied c₁ b

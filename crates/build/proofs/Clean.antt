@@ -1,6 +1,6 @@
 -- Sheets without a fault, and what their nodes unfold to.
 --     Clean            counts are right, and no counted node has a fault
---     clean-old        old nodes have no fault in a sheet that grew; old-doc: and the same documents
+--     clean-old        old nodes have no fault in a draft that grew; old-doc: and the same documents
 --     clean-add        one node more without a fault; new-doc: what it unfolds to
 -- Assumes nothing.
 use Prim.Native.Nat.{ℕ, suc, _+_, _<_}

@@ -1,4 +1,4 @@
--- What Text and the composed constructors make of a sheet without a fault, part by part.
+-- What Text and the composed constructors make of a draft without a fault, part by part.
 --     text-makes, space-makes, line-makes, line₀-makes, softline-makes, softline₀-makes
 --     hang-makes, indent-makes, enclose-makes, joined-makes, concat-makes, intersperse-makes
 -- Assumes nothing.

@@ -1,5 +1,5 @@
 -- How a constructor that is put together of others goes on from part to part.
---     Stands     counts, table and text, where a sheet was built over a first table and text
+--     Stands     counts, table and text, where a draft was built over a first table and text
 --     start, part, gone, taken, never, done   before the first part, over one, its answer taken apart, after the last
 --     refuse, settle, begin, step, finish   the whole: refused, or granted with all of its room, and its parts one by one
 --     first-denied, first-granted, first    a first part that asks for the whole
@@ -24,7 +24,7 @@ use Rattle.build.specs.Outcome.{past, asked, Outcome, outcome, onward, a
 use Rattle.build.proofs.Grow.{Whole, Grown, same, whole-grown, more-nodes, more-bytes}
 use Rattle.build.proofs.Room.{neither, stretch, fits-inside, Room, Allowed, allowed, granted}
 
--- counts c over table and text, where sheet s was built over a first table and a first text
+-- counts c over table and text, where draft s was built over a first table and a first text
 pub record Stands (table₀ text₀ : List ℕ) (s : Draft) (c : Counts) (table text : List ℕ) : Type 0 where
   pub counts : c ≡ s .counts
   pub words : table ≡ over (s .table) table₀
@@ -53,7 +53,7 @@ module _ {table₀ text₀ : List ℕ} {s : Draft} {c : Counts} {table text : Li
   pub same-bytes : length text ≡ length text₀
   same-bytes = let l = h .whole .bytes in let i = h .bytes-inside in ap length (h .bytes) ∙ length-over (s .text) text₀ (omega arith)
 
-  -- what is counted is the sheet
+  -- what is counted is the draft
   pub stands-counted : counted c table text ≡ s
   unfolding counted
   stands-counted =
@@ -124,7 +124,7 @@ module _ (c : Counts) (table text : List ℕ) (present amount right : Bool) (f :
         over-past true e = rw e refl
         over-past false e = over-operand present refl e
 
--- what was built over a sheet that stands, stands
+-- what was built over a draft that stands, stands
 pub went-added : {table₀ text₀ : List ℕ} {s : Draft} {c : Counts} {table text : List ℕ} → Stands table₀ text₀ s c table text → (b : Built) → Grown s (b .draft) → Room (length table₀) (length text₀) (s .counts) (b .draft .counts)
     → {m : Made} {table′ text′ : List ℕ} → outcome m table′ text′ ≡ added b table text → Went table₀ text₀ b m table′ text′
 unfolding added
@@ -211,7 +211,7 @@ module _ (c : Counts) (table text : List ℕ) (present amount right : Bool) (f :
       }
 
 module _ {c₀ : Counts} {table₀ text₀ : List ℕ} {present₀ amount₀ right₀ : Bool} {whole : Draft → Built} (begun : Begun c₀ table₀ text₀ present₀ amount₀ right₀ whole) where
-  -- room for what grew from the first sheet, where the whole grows from it
+  -- room for what grew from the first draft, where the whole grows from it
   room-for : {s t : Draft} → Grown (counted c₀ table₀ text₀) s → Grown s t → Grown t (whole (counted c₀ table₀ text₀) .draft) → Room (length table₀) (length text₀) (s .counts) (t .counts)
   unfolding counted
   room-for {s} {t} before here after =
@@ -221,7 +221,7 @@ module _ {c₀ : Counts} {table₀ text₀ : List ℕ} {present₀ amount₀ rig
         used = stretch (s .counts .bytes) (t .counts .bytes) (r .used) (more-bytes before) (more-bytes here) (more-bytes after);
       }
 
-  -- a part of the whole: the sheet before it grew from the first, and the whole grows from it
+  -- a part of the whole: the draft before it grew from the first, and the whole grows from it
   pub step : {s : Draft} {c : Counts} {table text : List ℕ} → Stands table₀ text₀ s c table text → (f : Draft → Built) → Grown (counted c₀ table₀ text₀) s → Grown s (f s .draft) → Grown (f s .draft) (whole (counted c₀ table₀ text₀) .draft)
       → {present amount right : Bool} → present ≡ true → amount ≡ true → right ≡ true → {m : Made} {table′ text′ : List ℕ} → outcome m table′ text′ ≡ made c table text present amount right f → Went table₀ text₀ (f s) m table′ text′
   step h f before here after {present} {amount} {right} p a t e = part h f here (room-for before here after) present amount right p a t e

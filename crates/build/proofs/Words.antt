@@ -1,6 +1,6 @@
--- Reading a sheet that grew: old nodes keep their words, and a new node has the words that it was made of.
+-- Reading a draft that grew: old nodes keep their words, and a new node has the words that it was made of.
 --     old-word, new-word          a word of an old node, and of the next one
---     append-present              what Append answers is a node of its sheet
+--     append-present              what Append answers is a node of its draft
 -- Assumes nothing.
 use Prim.Native.Nat.{ℕ, _+_, _*_, _<_}
 use native.Mathlib.Omega.{arith}

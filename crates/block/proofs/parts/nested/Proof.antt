@@ -5,7 +5,7 @@ use Rattle.build.specs.Parts.{nest}
 use borrow.Author.Tests.{lt-ltb}
 use Rattle.build.proofs.Only.{nest-adds}
 use Rattle.block.specs.Block.{nested}
-use Rattle.affixes.proofs.Chain.{ran-made, ran-older, start-node}
+use Rattle.block.proofs.Chain.{ran-made, ran-older, start-node}
 use Rattle.block.proofs.parts.nested.Statement.{statement}
 use Rattle.block.proofs.parts.nested.Tie as tie
 

@@ -5,7 +5,7 @@ use Rattle.build.specs.Parts.{append}
 use Rattle.build.proofs.Only.{append-adds}
 use Rattle.block.specs.Block.{nested, wrap}
 use Rattle.block.proofs.Layers.{nested-adds}
-use Rattle.affixes.proofs.Chain.{ready, counted-node, start-node, at, first-stops, second-stops, group-last, ran-append}
+use Rattle.block.proofs.Chain.{ready, counted-node, start-node, at, first-stops, second-stops, group-last, ran-append}
 use Rattle.block.proofs.Steps.{bodied-later}
 use Rattle.block.proofs.parts.wrap.Statement.{statement}
 use Rattle.block.proofs.parts.wrap.Tie as tie

@@ -1,15 +1,25 @@
 -- `text`: one node and its bytes.
 use borrow.Author.Needs.{needs}
-use mathlib.Core.Path.{ap, _∙_}
 use native.Mathlib.Omega.{arith}
-use Prim.Native.Nat.{ℕ, _+_}
-use mathlib.Core.List.{List, _++_}
-use lib.ListN.{length, take, drop}
-use lib.Seq.{take-length}
-use Rattle.buffer.specs.Run.{put}
+use Prim.Native.Nat.{_+_, _≤_}
+use lib.ListN.{length}
 use Rattle.build.proofs.Texts.{text-denied, text-node-room, text-byte-room, text-empty, text-full}
 use Rattle.build.proofs.Counts.text.Statement.{statement}
 use Rattle.build.proofs.Counts.text.Tie as tie
+
+-- where bytes are to be added
+abbrev start : tie.Else1 → tie.Start
+start c = c .before .before .before .before .before .before .before .before
+
+room : (c : tie.Else1) → let args = start c .args in
+    (args .self .bytes + length (args .bytes .now) ≤ 65536) × (args .self .bytes + length (args .bytes .now) ≤ length (args .text .now))
+room c =
+    let after-enum-told = c .before in
+    let after-ask = after-enum-told .before .before in
+    let after-columns-right = after-ask .before in
+    let args = after-columns-right .before .before .before .before .args in
+    text-byte-room (args .self) (args .table .now) (args .text .now) (args .bytes .now) (args .columns .0)
+    (after-columns-right .columns-right .ensures) (after-ask .ask .ensures) (after-enum-told .enum-told .given .1) (c .if1 .left)
 
 columns-right-requires : tie.Need-columns-right-requires
 columns-right-requires c κs = search needs
@@ -26,9 +36,8 @@ returns c =
     let after-ask = after-asked .before .before in
     let after-columns-right = after-ask .before in
     let args = after-columns-right .before .before .before .before .args in
-    simp (← (after-columns-right .columns-right .ensures))
-    (text-denied (args .self) (args .table .now) (args .text .now) (args .bytes .now) (args .columns .0) (after-columns-right .columns-right .result)
-    (after-ask .ask .ensures) (after-asked .asked .given .1))
+    text-denied (args .self) (args .table .now) (args .text .now) (args .bytes .now) (args .columns .0) (after-columns-right .columns-right .ensures)
+    (after-ask .ask .ensures) (after-asked .asked .given .1)
 
 enum-told : tie.Need-enum-told
 enum-told c = search needs
@@ -40,7 +49,7 @@ add-requires c κs =
     let after-columns-right = after-ask .before in
     let args = after-columns-right .before .before .before .before .args in
     text-node-room (args .self) (args .table .now) (args .text .now) (args .bytes .now) (args .columns .0)
-    (after-columns-right .columns-right .result) (after-ask .ask .ensures) (after-enum-told .enum-told .given .1)
+    (after-columns-right .columns-right .ensures) (after-ask .ask .ensures) (after-enum-told .enum-told .given .1)
 
 same-length : tie.Need-same-length
 same-length c = search needs
@@ -53,60 +62,24 @@ returns-2 c =
     let after-ask = after-enum-told .before .before in
     let after-columns-right = after-ask .before in
     let args = after-columns-right .before .before .before .before .args in
-    simp (← (after-columns-right .columns-right .ensures))
-    (text-empty (args .self) (args .table .now) (args .text .now) (args .bytes .now) (args .columns .0) (after-columns-right .columns-right .result)
-    (after-ask .ask .ensures) (after-enum-told .enum-told .given .1) (then1 .if1 .taken) (after-add .add .ensures .0) (after-add .add .ensures .1))
+    text-empty (args .self) (args .table .now) (args .text .now) (args .bytes .now) (args .columns .0) (after-columns-right .columns-right .ensures)
+    (after-ask .ask .ensures) (after-enum-told .enum-told .given .1) (then1 .if1 .taken) (after-add .add .ensures .0) (after-add .add .ensures .1)
 
 cast-copy-bytes : tie.Need-cast-copy-bytes
 cast-copy-bytes c = search needs
 
 copy-bytes-requires : tie.Need-copy-bytes-requires
-copy-bytes-requires c κs =
-    let else1 = c .before in
-    let after-enum-told = else1 .before in
-    let after-ask = after-enum-told .before .before in
-    let after-columns-right = after-ask .before in
-    let args = after-columns-right .before .before .before .before .args in
-    let room =
-    text-byte-room (args .self) (args .table .now) (args .text .now) (args .bytes .now) (args .columns .0)
-    (after-columns-right .columns-right .result) (after-ask .ask .ensures) (after-enum-told .enum-told .given .1) (else1 .if1 .left) in
-    (omega arith, room .1)
+copy-bytes-requires c κs = (omega arith, room (c .before) .1)
 
-cast-t22 : tie.Need-cast-t22
-cast-t22 c =
+cast-long : tie.Need-cast-long
+cast-long c =
     let else1 = c .before .before .before .before in
-    let after-enum-told = else1 .before in
-    let after-ask = after-enum-told .before .before in
-    let after-columns-right = after-ask .before in
-    let args = after-columns-right .before .before .before .before .args in
-    let room =
-    text-byte-room (args .self) (args .table .now) (args .text .now) (args .bytes .now) (args .columns .0)
-    (after-columns-right .columns-right .result) (after-ask .ask .ensures) (after-enum-told .enum-told .given .1) (else1 .if1 .left) in
-    omega arith
+    omega (arith, room else1 .0)
 
 add-t23 : tie.Need-add-t23
 add-t23 c =
     let else1 = c .before .before .before .before in
-    let after-enum-told = else1 .before in
-    let after-ask = after-enum-told .before .before in
-    let after-columns-right = after-ask .before in
-    let args = after-columns-right .before .before .before .before .args in
-    let room =
-    text-byte-room (args .self) (args .table .now) (args .text .now) (args .bytes .now) (args .columns .0)
-    (after-columns-right .columns-right .result) (after-ask .ask .ensures) (after-enum-told .enum-told .given .1) (else1 .if1 .left) in
-    omega arith
-
-cast-t22-2 : tie.Need-cast-t22-2
-cast-t22-2 c =
-    let else1 = c .before .before .before .before .before in
-    let after-enum-told = else1 .before in
-    let after-ask = after-enum-told .before .before in
-    let after-columns-right = after-ask .before in
-    let args = after-columns-right .before .before .before .before .args in
-    let room =
-    text-byte-room (args .self) (args .table .now) (args .text .now) (args .bytes .now) (args .columns .0)
-    (after-columns-right .columns-right .result) (after-ask .ask .ensures) (after-enum-told .enum-told .given .1) (else1 .if1 .left) in
-    omega arith
+    omega (arith, room else1 .0)
 
 add-requires-2 : tie.Need-add-requires-2
 add-requires-2 c κs =
@@ -115,7 +88,7 @@ add-requires-2 c κs =
     let after-columns-right = after-ask .before in
     let args = after-columns-right .before .before .before .before .args in
     text-node-room (args .self) (args .table .now) (args .text .now) (args .bytes .now) (args .columns .0)
-    (after-columns-right .columns-right .result) (after-ask .ask .ensures) (after-enum-told .enum-told .given .1)
+    (after-columns-right .columns-right .ensures) (after-ask .ask .ensures) (after-enum-told .enum-told .given .1)
 
 same-length-2 : tie.Need-same-length-2
 same-length-2 c = search needs
@@ -124,7 +97,6 @@ same-length-3 : tie.Need-same-length-3
 same-length-3 c = search needs
 
 returns-3 : tie.Need-returns-3
-unfolding put
 returns-3 c =
     let after-add2 = c .before .before in
     let after-copy-bytes = after-add2 .before .before .before .before in
@@ -133,14 +105,9 @@ returns-3 c =
     let after-ask = after-enum-told .before .before in
     let after-columns-right = after-ask .before in
     let args = after-columns-right .before .before .before .before .args in
-    let copied =
-    after-copy-bytes .copy-bytes .ensures
-    ∙ ap (λ (l : List ℕ). take (args .self .bytes) (args .text .now) ++ l ++ drop (args .self .bytes + length l) (args .text .now))
-    (take-length (args .bytes .now)) in
-    simp (← (after-columns-right .columns-right .ensures))
-    (text-full (args .self) (args .table .now) (args .text .now) (args .bytes .now) (args .columns .0) (after-columns-right .columns-right .result)
+    text-full (args .self) (args .table .now) (args .text .now) (args .bytes .now) (args .columns .0) (after-columns-right .columns-right .ensures)
     (after-ask .ask .ensures) (after-enum-told .enum-told .given .1) (else1 .if1 .left) (after-add2 .add2 .ensures .0) (after-add2 .add2 .ensures .1)
-    copied)
+    (after-copy-bytes .copy-bytes .ensures)
 
 pub text-spec : {M : Type 1} → statement M
 text-spec =
@@ -156,9 +123,8 @@ text-spec =
     returns-2
     cast-copy-bytes
     copy-bytes-requires
-    cast-t22
+    cast-long
     add-t23
-    cast-t22-2
     add-requires-2
     same-length-2
     same-length-3

@@ -3,11 +3,11 @@ use borrow.Author.Needs.{needs}
 use lib.ListN.{length}
 use lib.Dec.{ltb}
 use Rattle.build.specs.Draft.{counted}
-use Rattle.affixes.specs.Affixes.{list, guarded, head}
-use Rattle.affixes.proofs.Layers.{stays-there, list-adds, guarded-adds}
-use Rattle.affixes.proofs.Chain.{ready, start-node, start-list, counted-node, at, first-stops, second-stops, group-last, shares-later}
-use Rattle.affixes.proofs.head.Statement.{statement}
-use Rattle.affixes.proofs.head.Tie as tie
+use Rattle.block.specs.Affixes.{list, guarded, head}
+use Rattle.block.proofs.Heads.{stays-there, list-adds, guarded-adds}
+use Rattle.block.proofs.Chain.{ready, start-node, start-list, counted-node, at, first-stops, second-stops, group-last, shares-later}
+use Rattle.block.proofs.affixes.head.Statement.{statement}
+use Rattle.block.proofs.affixes.head.Tie as tie
 
 list-requires : tie.Need-list-requires
 list-requires c κs =

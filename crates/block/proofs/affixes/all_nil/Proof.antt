@@ -5,10 +5,10 @@ use native.Mathlib.Omega.{arith}
 use Prim.Native.Nat.{_-_, _≤_}
 use lib.ListN.{length, drop}
 use Rattle.build.specs.Draft.{counted}
-use Rattle.affixes.specs.Affixes.{allNil}
-use Rattle.affixes.proofs.Layers.{nil-next, nil-not, nil-end}
-use Rattle.affixes.proofs.all_nil.Statement.{statement}
-use Rattle.affixes.proofs.all_nil.Tie as tie
+use Rattle.block.specs.Affixes.{allNil}
+use Rattle.block.proofs.Heads.{nil-next, nil-not, nil-end}
+use Rattle.block.proofs.affixes.all_nil.Statement.{statement}
+use Rattle.block.proofs.affixes.all_nil.Tie as tie
 
 abbrev Inv-loop : tie.InvT-loop
 Inv-loop c table text nodes i₀ i = (i ≤ length nodes) × (allNil (counted c table text) nodes ≡ allNil (counted c table text) (drop i nodes))

@@ -20,8 +20,8 @@ use Rattle.build.specs.Constructors.{hasAll}
 use Rattle.build.proofs.Grow.{more-nodes}
 use Rattle.build.proofs.Joins.{Below, below-more}
 use Rattle.build.proofs.Only.{Adds, adds-then, older-adds, pick-adds, append-adds, group-adds, concat-adds}
-use Rattle.affixes.specs.declared.Shared.{Shared}
-use Rattle.affixes.specs.Affixes.{list, allNil, guarded, head, tail}
+use Rattle.block.specs.declared.Shared.{Shared}
+use Rattle.block.specs.Affixes.{list, allNil, guarded, head, tail}
 
 pub of-below : (c : Counts) (ns : List ℕ) → Below (c .nodes) ns → hasAll c ns ≡ true
 unfolding hasAll

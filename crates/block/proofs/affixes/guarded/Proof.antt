@@ -1,9 +1,9 @@
 -- `guarded`: joined to the guard, or as it is.
 use borrow.Author.Needs.{needs}
-use Rattle.affixes.specs.Affixes.{guarded}
-use Rattle.affixes.proofs.Chain.{ran-older, ran-append}
-use Rattle.affixes.proofs.guarded.Statement.{statement}
-use Rattle.affixes.proofs.guarded.Tie as tie
+use Rattle.block.specs.Affixes.{guarded}
+use Rattle.block.proofs.Chain.{ran-older, ran-append}
+use Rattle.block.proofs.affixes.guarded.Statement.{statement}
+use Rattle.block.proofs.affixes.guarded.Tie as tie
 
 append-requires : tie.Need-append-requires
 append-requires c κs = search needs

@@ -4,10 +4,10 @@ use mathlib.Core.Path.{refl}
 use Rattle.build.specs.Draft.{counted}
 use Rattle.build.specs.Parts.{concat}
 use Rattle.build.proofs.Only.{concat-adds}
-use Rattle.affixes.proofs.Chain.{ran-made, ran-older, start-list}
-use Rattle.affixes.proofs.Layers.{list-none, list-some}
-use Rattle.affixes.proofs.list.Statement.{statement}
-use Rattle.affixes.proofs.list.Tie as tie
+use Rattle.block.proofs.Chain.{ran-made, ran-older, start-list}
+use Rattle.block.proofs.Heads.{list-none, list-some}
+use Rattle.block.proofs.affixes.list.Statement.{statement}
+use Rattle.block.proofs.affixes.list.Tie as tie
 
 returns : tie.Need-returns
 returns c =

@@ -1,5 +1,5 @@
 -- How a run of parts goes on: from counts c over a table, part by part, until one is refused for want of nodes.
---     At             where the run stands: a sheet, counts and a table
+--     At             where the run stands: a draft, counts and a table
 --     begin, ready   before the first part; what the next part asks
 --     ran-made, ran-older   what a constructor promises, and a node given back, as a run of one part
 --     go, go-made, at, stop   one part more; its answer taken apart; handed on
@@ -30,9 +30,9 @@ use Rattle.build.proofs.Room.{Fits, fits-of, of-fits, stretch, Room}
 use Rattle.build.proofs.Stand.{Stands, same-words, stands-counted, start, Went, went-added, taken, never, done}
 use Rattle.build.proofs.Joins.{Below, below-of}
 use Rattle.build.proofs.Only.{Adds, adds-then, append-adds, group-adds, made-whole, made-short}
-use Rattle.affixes.specs.declared.Shared.{Shared}
-use Rattle.affixes.specs.Run.{Ready, Shares, Ran}
-use Rattle.affixes.proofs.Layers.{of-below}
+use Rattle.block.specs.declared.Shared.{Shared}
+use Rattle.block.specs.Run.{Ready, Shares, Ran}
+use Rattle.block.proofs.Heads.{of-below}
 
 -- where a run that began with counts c over the table stands
 pub record At (c : Counts) (table text : List ℕ) (s : Draft) (c₁ : Counts) (table₁ : List ℕ) : Type 0 where
@@ -199,7 +199,7 @@ module _ {c : Counts} {table text : List ℕ} {s : Draft} {c₁ : Counts} {table
       let d′ : Adds (counted c₁ table₁ text) (f (counted c₁ table₁ text)) = subst (λ (x : Draft). Adds x (f x)) (sym (stands-counted (a .stands))) d in
       go a f d (ran-made (ready a) f d′ p q o)
 
-  -- a node of the sheet is a present operand
+  -- a node of the draft is a present operand
   pub operand : (n : ℕ) → n < s .counts .nodes → has c₁ n ≡ true
   operand n h = rw (a .stands .counts) (lt-ltb n (s .counts .nodes) h)
 

@@ -3,11 +3,11 @@ use borrow.Author.Needs.{needs}
 use Rattle.build.specs.Draft.{counted}
 use Rattle.build.specs.Parts.{append}
 use Rattle.build.proofs.Only.{append-adds}
-use Rattle.affixes.specs.Affixes.{list, tail}
-use Rattle.affixes.proofs.Layers.{stays-there, list-adds}
-use Rattle.affixes.proofs.Chain.{ready, counted-node, start-node, start-list, at, first-stops, second-stops, group-last, ran-append}
-use Rattle.affixes.proofs.tail.Statement.{statement}
-use Rattle.affixes.proofs.tail.Tie as tie
+use Rattle.block.specs.Affixes.{list, tail}
+use Rattle.block.proofs.Heads.{stays-there, list-adds}
+use Rattle.block.proofs.Chain.{ready, counted-node, start-node, start-list, at, first-stops, second-stops, group-last, ran-append}
+use Rattle.block.proofs.affixes.tail.Statement.{statement}
+use Rattle.block.proofs.affixes.tail.Tie as tie
 
 list-requires : tie.Need-list-requires
 list-requires c κs =
