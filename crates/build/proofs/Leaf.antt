@@ -33,7 +33,8 @@ module _ (c : Counts) (table text : List ℕ) (present amount : Bool) where
     abbrev older-asked : ℕ → Asked
     older-asked more = asked c (length table) (length text) present amount true (c .nodes + more) (c .bytes + 0)
 
-    pub older-settled : (more : ℕ) {r : Made} → r ≡ answered (older-asked more) (Node c n) → outcome r table text ≡ settled (older-asked more) (older (counted c table text) (n .0)) table text
+    pub older-settled : (more : ℕ) {r : Made} → r ≡ answered (older-asked more) (Node c n)
+        → outcome r table text ≡ settled (older-asked more) (older (counted c table text) (n .0)) table text
     unfolding counted added
     older-settled more e = ap (λ (m : Made). outcome m table text) e ∙ go (older-asked more) refl
       where
@@ -49,7 +50,8 @@ module _ (c : Counts) (table text : List ℕ) (present amount : Bool) where
     pub given-back : {r : Made} → r ≡ answered (older-asked 0) (Node c n) → outcome r table text ≡ made c table text present amount true (λ s. older s (n .0))
     unfolding counted
     given-back e =
-        older-settled 0 e ∙ settle c table text present amount true (λ s. older s (n .0)) (c .nodes + 0) (c .bytes + 0) (λ m u p. (sym (add-zero (c .nodes)), sym (add-zero (c .bytes))))
+        older-settled 0 e
+        ∙ settle c table text present amount true (λ s. older s (n .0)) (c .nodes + 0) (c .bytes + 0) (λ m u p. (sym (add-zero (c .nodes)), sym (add-zero (c .bytes))))
 
   -- one by itself
   module _ (k a b d : ℕ) where

@@ -95,7 +95,8 @@ module _ {s : Draft} (c : Clean s) where
     unfolding faultOf kindAt kinds doc
     nested-makes amount way p q =
         let f : faultOf (s .text) N 4 n amount way ≡ 0 = rw (lt-ltb n N h, le-leb amount 1000 p, le-leb way 1 q) refl in
-        add-makes 4 n amount way (nest (docOf s n) amount (wayOf way)) f (new-doc s 4 n amount way c f ∙ ap (λ (x : Doc). nest x amount (wayOf way)) (kept 4 n amount way n h))
+        add-makes 4 n amount way (nest (docOf s n) amount (wayOf way)) f
+        (new-doc s 4 n amount way c f ∙ ap (λ (x : Doc). nest x amount (wayOf way)) (kept 4 n amount way n h))
 
     pub group-makes : Makes s (parts.group s n) (groupDoc (docOf s n))
     unfolding parts.group groupDoc

@@ -35,7 +35,8 @@ pub text-counts : (s : Draft) (bytes : List ℕ) (columns : ℕ) → text s byte
 unfolding text
 text-counts s bytes columns = go (eqb (length bytes) 0) refl
   where
-    go : (q : Bool) → eqb (length bytes) 0 ≡ q → pick q (nil s) (add (write s bytes) 6 (s .counts .bytes) (length bytes) columns) .draft .counts ≡ countsOf (s .counts .nodes + 1) (s .counts .bytes + length bytes)
+    go : (q : Bool) → eqb (length bytes) 0 ≡ q
+        → pick q (nil s) (add (write s bytes) 6 (s .counts .bytes) (length bytes) columns) .draft .counts ≡ countsOf (s .counts .nodes + 1) (s .counts .bytes + length bytes)
     go true e = let z = eqb-true (length bytes) 0 e in ap (countsOf (s .counts .nodes + 1)) (omega arith)
     go false e = refl
 
@@ -43,7 +44,8 @@ pub text-present : (s : Draft) (bytes : List ℕ) (columns : ℕ) → text s byt
 unfolding text
 text-present s bytes columns = go (eqb (length bytes) 0)
   where
-    go : (q : Bool) → pick q (nil s) (add (write s bytes) 6 (s .counts .bytes) (length bytes) columns) .node < pick q (nil s) (add (write s bytes) 6 (s .counts .bytes) (length bytes) columns) .draft .counts .nodes
+    go : (q : Bool)
+        → pick q (nil s) (add (write s bytes) 6 (s .counts .bytes) (length bytes) columns) .node < pick q (nil s) (add (write s bytes) 6 (s .counts .bytes) (length bytes) columns) .draft .counts .nodes
     go true = omega arith
     go false = omega arith
 

@@ -2,18 +2,34 @@
 use borrow.Author.Needs.{needs}
 use mathlib.Core.Path.{_≡_, refl, sym, _∙_}
 use native.Mathlib.Omega.{arith}
-use Prim.Native.Nat.{_-_, _≤_}
+use Prim.Native.Nat.{_-_}
 use lib.ListN.{length, drop}
-use Rattle.build.proofs.Joins.{joinAll, join-refused}
+use Rattle.build.specs.Constructors.{concatMade}
+use Rattle.build.proofs.Joins.{joinAll, join-refused, Joining}
 use Rattle.build.proofs.Concats.{concat-none, concat-made, concat-turn, concat-end}
 use Rattle.build.proofs.Counts.concat.Statement.{statement}
 use Rattle.build.proofs.Counts.concat.Tie as tie
 
 abbrev Inv-loop : tie.InvT-loop
-Inv-loop table₀ text nodes present more made₀ i₀ table made i = (1 ≤ i) × (i ≤ length nodes) × (length table ≡ length table₀) × (joinAll made table text (drop i nodes) ≡ joinAll made₀ table₀ text (drop 1 nodes))
+Inv-loop table₀ text nodes present more made₀ i₀ table made i = Joining (λ l. l) nodes text table₀ made₀ table made i
 
 abbrev μ-loop : tie.MeasureT-loop
 μ-loop table₀ text nodes present more made₀ i₀ table made i = length nodes - i
+
+abbrev start : tie.After-older Inv-loop μ-loop → tie.Start Inv-loop μ-loop
+start c = c .before .before .before .before .before .before .before .before .before .before
+
+-- the loop, from the first node on
+whole : (c : tie.After-older Inv-loop μ-loop) → let args = start c .args in
+    joinAll (c .older .result) (args .table .now) (args .text .now) (drop 1 (args .nodes .now)) ≡ concatMade (args .self) (args .table .now) (args .text .now) (args .nodes .now)
+whole c =
+    let after-less-one = c .before .before in
+    let after-solid = after-less-one .before in
+    let after-has-all = after-solid .before .before in
+    let else1 = after-has-all .before in
+    let args = else1 .before .before .before .before .args in
+    concat-made (args .self) (args .table .now) (args .text .now) (args .nodes .now) (omega (arith, else1 .if1 .left))
+    (rw (after-has-all .has-all .ensures, after-less-one .less-one .ensures, after-solid .solid .ensures) at (c .older .ensures))
 
 nil-requires : tie.Need-nil-requires Inv-loop μ-loop
 nil-requires c κs = search needs
@@ -40,8 +56,7 @@ less-one-requires c κs = search needs
 shared-slice-read-t20 : tie.Need-shared-slice-read-t20 Inv-loop μ-loop
 shared-slice-read-t20 c =
     let else1 = c .before .before .before .before .before in
-    let n = else1 .if1 .left in
-    omega (arith, n)
+    omega (arith, else1 .if1 .left)
 
 older-requires : tie.Need-older-requires Inv-loop μ-loop
 older-requires c κs = search needs
@@ -49,8 +64,7 @@ older-requires c κs = search needs
 loop-holds : tie.Need-loop-holds Inv-loop μ-loop
 loop-holds c =
     let else1 = c .before .before .before .before .before .before in
-    let n = else1 .if1 .left in
-    (omega arith, omega (arith, n), refl, refl)
+    record { some = omega arith; inside = omega (arith, else1 .if1 .left); kept = refl; joins = refl }
 
 enum-known-made : tie.Need-enum-known-made Inv-loop μ-loop
 enum-known-made c = search needs
@@ -61,22 +75,17 @@ enum-told c = search needs
 same-length-2 : tie.Need-same-length-2 Inv-loop μ-loop
 same-length-2 c =
     let turn = c .before .before .before in
-    turn .loop .inv .2
+    turn .loop .inv .kept
 
 returns-2 : tie.Need-returns-2 Inv-loop μ-loop
 returns-2 c =
     let turn = c .before .before .before in
     let after-older = turn .before in
-    let after-less-one = after-older .before .before in
-    let after-solid = after-less-one .before in
-    let after-has-all = after-solid .before .before in
-    let else1 = after-has-all .before in
-    let args = else1 .before .before .before .before .args in
-    let L = turn .loop in
-    sym (join-refused (L .table) (args .text .now) _ (c .enum-told .given .1))
-    ∙ L .inv .3
-    ∙ concat-made (args .self) (args .table .now) (args .text .now) (args .nodes .now) (let n = else1 .if1 .left in omega (arith, n))
-    (rw (after-has-all .has-all .ensures, after-less-one .less-one .ensures, after-solid .solid .ensures) at (after-older .older .ensures))
+    sym
+    (join-refused (turn .loop .table) (after-older .before .before .before .before .before .before .before .before .before .before .args .text .now) _
+    (c .enum-told .given .1))
+    ∙ turn .loop .inv .joins
+    ∙ whole after-older
 
 mul-t22 : tie.Need-mul-t22 Inv-loop μ-loop
 mul-t22 c = search needs
@@ -103,32 +112,28 @@ loop-again c =
     let in-loop = after-made .before .before in
     let turn = in-loop .before in
     let args = turn .before .before .before .before .before .before .before .before .before .before .before .args in
-    let L = turn .loop in (
-      omega arith,
-      omega arith,
-      after-append .append .kept .1 .0 ∙ L .inv .2,
-      concat-turn (L .made) (L .table) (args .text .now) (args .nodes .now) (L .i) (in-loop .loop-test .taken)
+    let now = turn .loop in
+    record {
+      some = omega arith;
+      inside = omega arith;
+      kept = after-append .append .kept .1 .0 ∙ now .inv .kept;
+      joins =
+          concat-turn (now .made) (now .table) (args .text .now) (args .nodes .now) (now .i) (in-loop .loop-test .taken)
           (rw (after-made .made .given .1) (after-append .append .ensures))
-          ∙ L .inv .3,
-    )
+          ∙ now .inv .joins;
+    }
 
 same-length-3 : tie.Need-same-length-3 Inv-loop μ-loop
-same-length-3 c = c .before .loop .inv .2
+same-length-3 c = c .before .loop .inv .kept
 
 returns-3 : tie.Need-returns-3 Inv-loop μ-loop
 returns-3 c =
     let turn = c .before in
     let after-older = turn .before in
-    let after-less-one = after-older .before .before in
-    let after-solid = after-less-one .before in
-    let after-has-all = after-solid .before .before in
-    let else1 = after-has-all .before in
-    let args = else1 .before .before .before .before .args in
-    let L = turn .loop in
-    concat-end (args .nodes .now) (L .i) (c .loop-test .left)
-    ∙ L .inv .3
-    ∙ concat-made (args .self) (args .table .now) (args .text .now) (args .nodes .now) (let n = else1 .if1 .left in omega (arith, n))
-    (rw (after-has-all .has-all .ensures, after-less-one .less-one .ensures, after-solid .solid .ensures) at (after-older .older .ensures))
+    concat-end (after-older .before .before .before .before .before .before .before .before .before .before .args .nodes .now) (turn .loop .i)
+    (c .loop-test .left)
+    ∙ turn .loop .inv .joins
+    ∙ whole after-older
 
 pub concat-spec : {M : Type 1} → statement M
 concat-spec =

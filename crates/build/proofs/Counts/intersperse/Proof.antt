@@ -2,20 +2,36 @@
 use borrow.Author.Needs.{needs}
 use mathlib.Core.Path.{_≡_, refl, sym, _∙_}
 use native.Mathlib.Omega.{arith}
-use Prim.Native.Nat.{_-_, _≤_}
+use Prim.Native.Nat.{_-_}
 use lib.ListN.{length, drop}
 use Rattle.build.specs.Parts.{separated}
+use Rattle.build.specs.Constructors.{intersperseMade}
 use Rattle.build.proofs.Leaf.{by-operands}
-use Rattle.build.proofs.Joins.{joinAll, join-refused}
+use Rattle.build.proofs.Joins.{joinAll, join-refused, Joining}
 use Rattle.build.proofs.Separated.{intersperse-none, intersperse-made, intersperse-turn, intersperse-end}
 use Rattle.build.proofs.Counts.intersperse.Statement.{statement}
 use Rattle.build.proofs.Counts.intersperse.Tie as tie
 
 abbrev Inv-loop : tie.InvT-loop
-Inv-loop table₀ text nodes separator present more made₀ i₀ table made i = (1 ≤ i) × (i ≤ length nodes) × (length table ≡ length table₀) × (joinAll made table text (separated (separator .0) (drop i nodes)) ≡ joinAll made₀ table₀ text (separated (separator .0) (drop 1 nodes)))
+Inv-loop table₀ text nodes separator present more made₀ i₀ table made i = Joining (separated (separator .0)) nodes text table₀ made₀ table made i
 
 abbrev μ-loop : tie.MeasureT-loop
 μ-loop table₀ text nodes separator present more made₀ i₀ table made i = length nodes - i
+
+abbrev start : tie.After-older Inv-loop μ-loop → tie.Start Inv-loop μ-loop
+start c = c .before .before .before .before .before .before .before .before .before
+
+-- the loop, from the first node on
+whole : (c : tie.After-older Inv-loop μ-loop) → let args = start c .args in
+    joinAll (c .older .result) (args .table .now) (args .text .now) (separated (args .separator .0) (drop 1 (args .nodes .now)))
+    ≡ intersperseMade (args .self) (args .table .now) (args .text .now) (args .nodes .now) (args .separator .0)
+whole c =
+    let after-separated-adds = c .before .before in
+    let else1 = after-separated-adds .before .before in
+    let after-has-with = else1 .before in
+    let args = after-has-with .before .before .before .before .args in
+    intersperse-made (args .separator .0) (args .nodes .now) (omega (arith, else1 .if1 .left)) (args .self) (args .table .now) (args .text .now)
+    (rw (after-has-with .has-with .ensures, after-separated-adds .separated-adds .ensures) at (c .older .ensures))
 
 has-with-requires : tie.Need-has-with-requires Inv-loop μ-loop
 has-with-requires c κs = search needs
@@ -36,15 +52,12 @@ returns c =
     ∙ intersperse-none (args .self) (args .table .now) (args .text .now) (args .separator .0) (args .nodes .now) (then1 .if1 .taken)
 
 separated-adds-requires : tie.Need-separated-adds-requires Inv-loop μ-loop
-separated-adds-requires c κs =
-    let n = c .before .if1 .left in
-    omega (arith, n)
+separated-adds-requires c κs = omega (arith, c .before .if1 .left)
 
 shared-slice-read-t22 : tie.Need-shared-slice-read-t22 Inv-loop μ-loop
 shared-slice-read-t22 c =
     let else1 = c .before .before .before in
-    let n = else1 .if1 .left in
-    omega (arith, n)
+    omega (arith, else1 .if1 .left)
 
 older-requires : tie.Need-older-requires Inv-loop μ-loop
 older-requires c κs = search needs
@@ -52,8 +65,7 @@ older-requires c κs = search needs
 loop-holds : tie.Need-loop-holds Inv-loop μ-loop
 loop-holds c =
     let else1 = c .before .before .before .before in
-    let n = else1 .if1 .left in
-    (omega arith, omega (arith, n), refl, refl)
+    record { some = omega arith; inside = omega (arith, else1 .if1 .left); kept = refl; joins = refl }
 
 enum-known-made : tie.Need-enum-known-made Inv-loop μ-loop
 enum-known-made c = search needs
@@ -64,21 +76,17 @@ enum-told c = search needs
 same-length-2 : tie.Need-same-length-2 Inv-loop μ-loop
 same-length-2 c =
     let turn = c .before .before .before in
-    turn .loop .inv .2
+    turn .loop .inv .kept
 
 returns-2 : tie.Need-returns-2 Inv-loop μ-loop
 returns-2 c =
     let turn = c .before .before .before in
     let after-older = turn .before in
-    let after-separated-adds = after-older .before .before in
-    let else1 = after-separated-adds .before .before in
-    let after-has-with = else1 .before in
-    let args = after-has-with .before .before .before .before .args in
-    let L = turn .loop in
-    sym (join-refused (L .table) (args .text .now) _ (c .enum-told .given .1))
-    ∙ L .inv .3
-    ∙ intersperse-made (args .separator .0) (args .nodes .now) (let n = else1 .if1 .left in omega (arith, n)) (args .self) (args .table .now)
-    (args .text .now) (rw (after-has-with .has-with .ensures, after-separated-adds .separated-adds .ensures) at (after-older .older .ensures))
+    sym
+    (join-refused (turn .loop .table) (after-older .before .before .before .before .before .before .before .before .before .args .text .now) _
+    (c .enum-told .given .1))
+    ∙ turn .loop .inv .joins
+    ∙ whole after-older
 
 append-requires : tie.Need-append-requires Inv-loop μ-loop
 append-requires c κs = search needs
@@ -112,32 +120,26 @@ loop-again c =
     let in-loop = after-made .before .before in
     let turn = in-loop .before in
     let args = turn .before .before .before .before .before .before .before .before .before .before .args in
-    let L = turn .loop in
-    let first = after-append .append in (
-      omega arith,
-      omega arith,
-      after-appended .appended .kept .1 .0 ∙ first .kept .1 .0 ∙ L .inv .2,
-      intersperse-turn (L .made) (first .result) (L .table) _ (args .text .now) (args .separator .0) (args .nodes .now) (L .i)
-          (in-loop .loop-test .taken) (rw (after-made .made .given .1) (first .ensures)) (after-appended .appended .ensures)
-          ∙ L .inv .3,
-    )
+    let now = turn .loop in
+    let turned =
+    intersperse-turn (now .made) (after-append .append .result) (now .table) _ (args .text .now) (args .separator .0) (args .nodes .now) (now .i)
+    (in-loop .loop-test .taken) (rw (after-made .made .given .1) (after-append .append .ensures)) (after-appended .appended .ensures) in
+    record {
+      some = omega arith;
+      inside = omega arith;
+      kept = after-appended .appended .kept .1 .0 ∙ after-append .append .kept .1 .0 ∙ now .inv .kept;
+      joins = turned ∙ now .inv .joins;
+    }
 
 same-length-3 : tie.Need-same-length-3 Inv-loop μ-loop
-same-length-3 c = c .before .loop .inv .2
+same-length-3 c = c .before .loop .inv .kept
 
 returns-3 : tie.Need-returns-3 Inv-loop μ-loop
 returns-3 c =
     let turn = c .before in
     let after-older = turn .before in
-    let after-separated-adds = after-older .before .before in
-    let else1 = after-separated-adds .before .before in
-    let after-has-with = else1 .before in
-    let args = after-has-with .before .before .before .before .args in
-    let L = turn .loop in
-    intersperse-end (args .separator .0) (args .nodes .now) (L .i) (c .loop-test .left)
-    ∙ L .inv .3
-    ∙ intersperse-made (args .separator .0) (args .nodes .now) (let n = else1 .if1 .left in omega (arith, n)) (args .self) (args .table .now)
-    (args .text .now) (rw (after-has-with .has-with .ensures, after-separated-adds .separated-adds .ensures) at (after-older .older .ensures))
+    let args = after-older .before .before .before .before .before .before .before .before .before .args in
+    intersperse-end (args .separator .0) (args .nodes .now) (turn .loop .i) (c .loop-test .left) ∙ turn .loop .inv .joins ∙ whole after-older
 
 pub intersperse-spec : {M : Type 1} → statement M
 intersperse-spec =
