@@ -43,7 +43,8 @@ module _ (s : Draft) where
 
 -- ---- in order
 
-pub core-adds : (s : Draft) (b : Block) (sh : Shared) (q : Bool) (after : List ℕ) → b .body .0 < s .counts .nodes → sh .none .0 < s .counts .nodes → sh .guard .0 < s .counts .nodes → Below (s .counts .nodes) after → Adds s (core s b sh q after)
+pub core-adds : (s : Draft) (b : Block) (sh : Shared) (q : Bool) (after : List ℕ) → b .body .0 < s .counts .nodes → sh .none .0 < s .counts .nodes
+    → sh .guard .0 < s .counts .nodes → Below (s .counts .nodes) after → Adds s (core s b sh q after)
 unfolding core
 core-adds s b sh q after h n g l =
     let joined = guarded s sh (b .body .0) q in
@@ -83,7 +84,8 @@ pub on-more : {N M : ℕ} {b : Block} {sh : Shared} {prefixes suffixes : List �
 on-more {prefixes = prefixes} {suffixes = suffixes} h o =
     record { body = omega (arith, o .body); none = omega (arith, o .none); guard = omega (arith, o .guard); before = below-more prefixes h (o .before); behind = below-more suffixes h (o .behind) }
 
-pub on-still : {s : Draft} {x : Built} {b : Block} {sh : Shared} {prefixes suffixes : List ℕ} → Adds s x → On (s .counts .nodes) b sh prefixes suffixes → On (x .draft .counts .nodes) b sh prefixes suffixes
+pub on-still : {s : Draft} {x : Built} {b : Block} {sh : Shared} {prefixes suffixes : List ℕ} → Adds s x → On (s .counts .nodes) b sh prefixes suffixes
+    → On (x .draft .counts .nodes) b sh prefixes suffixes
 on-still a o = on-more (more-nodes (a .grown)) o
 
 module _ (b : Block) (sh : Shared) (prefixes suffixes : List ℕ) (nests : List Bool) where
@@ -106,7 +108,8 @@ module _ (b : Block) (sh : Shared) (prefixes suffixes : List ℕ) (nests : List 
     pub middle-adds : Adds (front .draft) middle
     middle-adds =
         let p = on-still front-adds o in
-        core-adds (front .draft) b sh (bare (front .draft) (take split prefixes)) (drop split suffixes) (p .body) (p .none) (p .guard) (below-drop _ split suffixes (p .behind))
+        core-adds (front .draft) b sh (bare (front .draft) (take split prefixes)) (drop split suffixes) (p .body) (p .none) (p .guard)
+        (below-drop _ split suffixes (p .behind))
 
     pub wrapped-adds : Adds (middle .draft) wrapped
     wrapped-adds =
@@ -129,12 +132,14 @@ module _ (b : Block) (sh : Shared) (prefixes suffixes : List ℕ) (nests : List 
     alternative-adds = adds-then front-adds (adds-then middle-adds (adds-then wrapped-adds (adds-then back-adds join-adds)))
 
   -- the union with what stands
-  pub both-adds : (s : Draft) (n split : ℕ) → On (s .counts .nodes) b sh prefixes suffixes → Adds s (let other = alternative s b sh prefixes suffixes nests split in union (other .draft) n (other .node))
+  pub both-adds : (s : Draft) (n split : ℕ) → On (s .counts .nodes) b sh prefixes suffixes
+      → Adds s (let other = alternative s b sh prefixes suffixes nests split in union (other .draft) n (other .node))
   both-adds s n split o =
       let other = alternative s b sh prefixes suffixes nests split in
       adds-then (alternative-adds s split o) (union-adds (other .draft) n (other .node))
 
-  pub unions-adds : (s : Draft) (n split : ℕ) → n < s .counts .nodes → On (s .counts .nodes) b sh prefixes suffixes → Adds s (unions s b sh prefixes suffixes nests n split)
+  pub unions-adds : (s : Draft) (n split : ℕ) → n < s .counts .nodes → On (s .counts .nodes) b sh prefixes suffixes
+      → Adds s (unions s b sh prefixes suffixes nests n split)
   unfolding unions
   unions-adds s n zero h o = older-adds s n h
   unions-adds s n (suc split) h o =

@@ -3,6 +3,7 @@ mod Heads
 mod Chain
 mod Layers
 mod Steps
+mod Groups
 mod Loops
 mod Splits
 mod Starts

@@ -35,11 +35,13 @@ use Rattle.block.proofs.Chain.{At, begin, ready, later, start-node, sta
 use Rattle.block.proofs.Steps.{bodied-later}
 
 -- a run that has come to its end
-pub ran-at : {c : Counts} {table text : List ℕ} (b : Built) {c₁ : Counts} {n₁ : NodeNo} {table₁ : List ℕ} → At c table text (b .draft) c₁ table₁ → n₁ .0 ≡ b .node → Ran c table text b (Node c₁ n₁) table₁
+pub ran-at : {c : Counts} {table text : List ℕ} (b : Built) {c₁ : Counts} {n₁ : NodeNo} {table₁ : List ℕ} → At c table text (b .draft) c₁ table₁ → n₁ .0 ≡ b .node
+    → Ran c table text b (Node c₁ n₁) table₁
 ran-at b {c₁} {n₁} a e =
     let s = a .stands in
     record {
-      whole = λ q. done {b = b} (record { answer = λ i. Node (s .counts i) (record { 0 = e i }); stands = record { counts = refl; words = s .words; bytes = s .bytes; whole = s .whole; nodes-inside = s .nodes-inside; bytes-inside = s .bytes-inside } });
+      whole =
+          λ q. done {b = b} (record { answer = λ i. Node (s .counts i) (record { 0 = e i }); stands = record { counts = refl; words = s .words; bytes = s .bytes; whole = s .whole; nodes-inside = s .nodes-inside; bytes-inside = s .bytes-inside } });
       short = λ q. absurd (true≢false (sym (of-fits (a .room)) ∙ q));
     }
 
@@ -50,7 +52,8 @@ below-at [] i b h = absurd (not-suc-le-zero h)
 below-at (n ∷ ns) zero b h = b .0
 below-at (n ∷ ns) (suc i) b h = below-at ns i (b .1) (le-of-suc-le-suc h)
 
-wraps-next : (s : Draft) (b : Block) (n : ℕ) (ps : List ℕ) (qs : List Bool) (i : ℕ) → length qs ≡ length ps → i < length ps → wraps s b n (drop i ps) (drop i qs) ≡ (let inner = wraps s b n (drop (suc i) ps) (drop (suc i) qs) in wrap (inner .draft) b (inner .node) (getD ps i 0) (getD qs i false))
+wraps-next : (s : Draft) (b : Block) (n : ℕ) (ps : List ℕ) (qs : List Bool) (i : ℕ) → length qs ≡ length ps → i < length ps
+    → wraps s b n (drop i ps) (drop i qs) ≡ (let inner = wraps s b n (drop (suc i) ps) (drop (suc i) qs) in wrap (inner .draft) b (inner .node) (getD ps i 0) (getD qs i false))
 unfolding wraps
 wraps-next s b n [] qs i e h = absurd (not-suc-le-zero h)
 wraps-next s b n (p ∷ ps) [] i e h = absurd (omega arith)
@@ -62,14 +65,16 @@ none-more : {s : Draft} {b : Built} → Adds s b → Adds (b .draft) b
 none-more {b = b} a = record { grown = same (b .draft); quiet = refl; present = a .present }
 
 -- the wraps that are left
-wraps-rest : (s : Draft) (b : Block) (n : ℕ) (ps : List ℕ) (qs : List Bool) (i : ℕ) → length qs ≡ length ps → n < s .counts .nodes → Below (s .counts .nodes) ps → Adds (wraps s b n (drop i ps) (drop i qs) .draft) (wraps s b n ps qs)
+wraps-rest : (s : Draft) (b : Block) (n : ℕ) (ps : List ℕ) (qs : List Bool) (i : ℕ) → length qs ≡ length ps → n < s .counts .nodes → Below (s .counts .nodes) ps
+    → Adds (wraps s b n (drop i ps) (drop i qs) .draft) (wraps s b n ps qs)
 unfolding wraps
 wraps-rest s b n ps qs zero e h l = none-more (wraps-adds s b n ps qs h l)
 wraps-rest s b n [] qs (suc i) e h l = none-more (wraps-adds s b n [] qs h l)
 wraps-rest s b n (p ∷ ps) [] (suc i) e h l = absurd (omega arith)
 wraps-rest s b n (p ∷ ps) (q ∷ qs) (suc i) e h l =
     let inner = wraps-adds s b n ps qs h (l .1) in
-    adds-then (wraps-rest s b n ps qs i (omega arith) h (l .1)) (wrap-adds (wraps s b n ps qs .draft) b (wraps s b n ps qs .node) p q (inner .present) (stays-there inner (l .0)))
+    adds-then (wraps-rest s b n ps qs i (omega arith) h (l .1))
+    (wrap-adds (wraps s b n ps qs .draft) b (wraps s b n ps qs .node) p q (inner .present) (stays-there inner (l .0)))
 
 -- the affixes from i on are wrapped
 pub record Wrapping (c : Counts) (table text : List ℕ) (b : Block) (n : NodeNo) (ps : List ℕ) (qs : List Bool) (i : ℕ) (c₁ : Counts) (n₁ : NodeNo) (table₁ : List ℕ) : Type 0 where
@@ -78,13 +83,15 @@ pub record Wrapping (c : Counts) (table text : List ℕ) (b : Block) (n : NodeNo
 
 -- a turn goes from i to i - 1, and ends at 0
 module _ (c : Counts) (table text : List ℕ) (b : Block) (n : NodeNo) (ps : List ℕ) (qs : List Bool) (i : ℕ) where
-  pub wrap-turn : 0 < i → {c₁ : Counts} {n₁ : NodeNo} {table₁ : List ℕ} → Wrapping c table text b n ps qs i c₁ n₁ table₁ → Wrapping c table text b n ps qs (suc (i - 1)) c₁ n₁ table₁
+  pub wrap-turn : 0 < i → {c₁ : Counts} {n₁ : NodeNo} {table₁ : List ℕ} → Wrapping c table text b n ps qs i c₁ n₁ table₁
+      → Wrapping c table text b n ps qs (suc (i - 1)) c₁ n₁ table₁
   wrap-turn h {c₁} {n₁} {table₁} w = subst (λ (j : ℕ). Wrapping c table text b n ps qs j c₁ n₁ table₁) (omega arith) w
 
   pub wrap-zero : i ≤ 0 → {c₁ : Counts} {n₁ : NodeNo} {table₁ : List ℕ} → Wrapping c table text b n ps qs i c₁ n₁ table₁ → Wrapping c table text b n ps qs 0 c₁ n₁ table₁
   wrap-zero h {c₁} {n₁} {table₁} w = subst (λ (j : ℕ). Wrapping c table text b n ps qs j c₁ n₁ table₁) (omega arith) w
 
-module _ {c : Counts} {table text : List ℕ} (r : Ready c table text) {b : Block} (k : Bodied c b) (n : NodeNo) (h : n .0 < c .nodes) (ps : List ℕ) (qs : List Bool) (l : hasAll c ps ≡ true) (e : length qs ≡ length ps) where
+module _ {c : Counts} {table text : List ℕ} (r : Ready c table text) {b : Block} (k : Bodied c b) (n : NodeNo) (h : n .0 < c .nodes) (ps : List ℕ) (qs : List Bool)
+    (l : hasAll c ps ≡ true) (e : length qs ≡ length ps) where
   abbrev s₀ : Draft
   s₀ = counted c table text
 
@@ -120,7 +127,8 @@ module _ {c : Counts} {table text : List ℕ} (r : Ready c table text) {b : Bloc
       one-more : Ran c table text (so-far i) m₂ table₂
       one-more =
           rw (wraps-next s₀ b (n .0) ps qs i e m)
-          (go (w .place) (λ s. wrap s b (so-far (suc i) .node) (getD ps i 0) (getD qs i false)) (wrap-adds (so-far (suc i) .draft) b (so-far (suc i) .node) (getD ps i 0) (getD qs i false) (inner .present) prefix-there) (rw (w .node) at ran))
+          (go (w .place) (λ s. wrap s b (so-far (suc i) .node) (getD ps i 0) (getD qs i false))
+          (wrap-adds (so-far (suc i) .draft) b (so-far (suc i) .node) (getD ps i 0) (getD qs i false) (inner .present) prefix-there) (rw (w .node) at ran))
 
       pub wrap-stop : {why : Why} → m₂ ≡ Refused why → Ran c table text (wraps s₀ b (n .0) ps qs) m₂ table₂
       wrap-stop x = stop r (far-adds i) one-more x (wraps-rest s₀ b (n .0) ps qs i e (start-node r h) below)
@@ -133,11 +141,13 @@ module _ {c : Counts} {table text : List ℕ} (r : Ready c table text) {b : Bloc
 
 -- ---- unions
 
-pub on-hand : {c : Counts} {table text : List ℕ} {b : Block} {sh : Shared} {ps ss : List ℕ} → Ready c table text → AllPresent c b sh ps ss → On (counted c table text .counts .nodes) b sh ps ss
+pub on-hand : {c : Counts} {table text : List ℕ} {b : Block} {sh : Shared} {ps ss : List ℕ} → Ready c table text → AllPresent c b sh ps ss
+    → On (counted c table text .counts .nodes) b sh ps ss
 on-hand {ps = ps} {ss = ss} r k =
     record { body = start-node r (k .bodied .body); none = start-node r (k .shares .none); guard = start-node r (k .shares .guard); before = start-list r ps (k .before); behind = start-list r ss (k .behind) }
 
-pub hand-later : {c : Counts} {table text : List ℕ} {s : Draft} {c₁ : Counts} {table₁ : List ℕ} {b : Block} {sh : Shared} {ps ss : List ℕ} → At c table text s c₁ table₁ → AllPresent c b sh ps ss → AllPresent c₁ b sh ps ss
+pub hand-later : {c : Counts} {table text : List ℕ} {s : Draft} {c₁ : Counts} {table₁ : List ℕ} {b : Block} {sh : Shared} {ps ss : List ℕ} → At c table text s c₁ table₁
+    → AllPresent c b sh ps ss → AllPresent c₁ b sh ps ss
 hand-later {c} {c₁ = c₁} {ps = ps} {ss = ss} a k =
     let l = later a in
     record {
@@ -148,24 +158,30 @@ hand-later {c} {c₁ = c₁} {ps = ps} {ss = ss} a k =
     }
 
 -- so many alternatives are left, and come to the whole
-pub record Left (c : Counts) (table text : List ℕ) (b : Block) (sh : Shared) (ps ss : List ℕ) (qs : List Bool) (whole : Built) (split : ℕ) (c₁ : Counts) (n₁ : NodeNo) (table₁ : List ℕ) : Type 0 where
+pub record Left (c : Counts) (table text : List ℕ) (b : Block) (sh : Shared) (ps ss : List ℕ) (qs : List Bool) (whole : Built) (split : ℕ) (c₁ : Counts) (n₁ : NodeNo)
+    (table₁ : List ℕ) : Type 0 where
   pub place : At c table text (counted c₁ table₁ text) c₁ table₁
   pub there : n₁ .0 < c₁ .nodes
   pub ends : unions (counted c₁ table₁ text) b sh ps ss qs (n₁ .0) split ≡ whole
 
 -- a turn goes from split to split - 1, and ends at 0
 module _ (c : Counts) (table text : List ℕ) (b : Block) (sh : Shared) (ps ss : List ℕ) (qs : List Bool) (whole : Built) (split : ℕ) where
-  pub left-turn : 0 < split → {c₁ : Counts} {n₁ : NodeNo} {table₁ : List ℕ} → Left c table text b sh ps ss qs whole split c₁ n₁ table₁ → Left c table text b sh ps ss qs whole (suc (split - 1)) c₁ n₁ table₁
+  pub left-turn : 0 < split → {c₁ : Counts} {n₁ : NodeNo} {table₁ : List ℕ} → Left c table text b sh ps ss qs whole split c₁ n₁ table₁
+      → Left c table text b sh ps ss qs whole (suc (split - 1)) c₁ n₁ table₁
   left-turn h {c₁} {n₁} {table₁} w = subst (λ (j : ℕ). Left c table text b sh ps ss qs whole j c₁ n₁ table₁) (omega arith) w
 
-  pub left-zero : split ≤ 0 → {c₁ : Counts} {n₁ : NodeNo} {table₁ : List ℕ} → Left c table text b sh ps ss qs whole split c₁ n₁ table₁ → Left c table text b sh ps ss qs whole 0 c₁ n₁ table₁
+  pub left-zero : split ≤ 0 → {c₁ : Counts} {n₁ : NodeNo} {table₁ : List ℕ} → Left c table text b sh ps ss qs whole split c₁ n₁ table₁
+      → Left c table text b sh ps ss qs whole 0 c₁ n₁ table₁
   left-zero h {c₁} {n₁} {table₁} w = subst (λ (j : ℕ). Left c table text b sh ps ss qs whole j c₁ n₁ table₁) (omega arith) w
 
-pub alternative-turn : (c : Counts) (table text : List ℕ) (b : Block) (sh : Shared) (ps ss : List ℕ) (qs : List Bool) (split : ℕ) → 0 < split → {m : Made} {table₁ : List ℕ} → Ran c table text (alternative (counted c table text) b sh ps ss qs split) m table₁ → Ran c table text (alternative (counted c table text) b sh ps ss qs (suc (split - 1))) m table₁
+pub alternative-turn : (c : Counts) (table text : List ℕ) (b : Block) (sh : Shared) (ps ss : List ℕ) (qs : List Bool) (split : ℕ) → 0 < split
+    → {m : Made} {table₁ : List ℕ} → Ran c table text (alternative (counted c table text) b sh ps ss qs split) m table₁
+    → Ran c table text (alternative (counted c table text) b sh ps ss qs (suc (split - 1))) m table₁
 alternative-turn c table text b sh ps ss qs split h {m} {table₁} ran =
     subst (λ (j : ℕ). Ran c table text (alternative (counted c table text) b sh ps ss qs j) m table₁) (omega arith) ran
 
-module _ {c : Counts} {table text : List ℕ} (r : Ready c table text) {b : Block} {sh : Shared} {ps ss : List ℕ} (k : AllPresent c b sh ps ss) (qs : List Bool) (whole : Built) where
+module _ {c : Counts} {table text : List ℕ} (r : Ready c table text) {b : Block} {sh : Shared} {ps ss : List ℕ} (k : AllPresent c b sh ps ss) (qs : List Bool)
+    (whole : Built) where
   abbrev first : Draft
   first = counted c table text
 
@@ -214,11 +230,13 @@ module _ {c : Counts} {table text : List ℕ} (r : Ready c table text) {b : Bloc
       pub left-stop₁ : {why : Why} → m₂ ≡ Refused why → Ran c table text whole m₂ table₂
       left-stop₁ x = stop r (at-adds (w .place) other-adds) ran-other x (adds-then joined-adds rest-adds)
 
-      module _ {c₂ : Counts} {n₂ : NodeNo} (e₂ : m₂ ≡ Node c₂ n₂) {m₃ : Made} {table₃ : List ℕ} (o : outcome m₃ table₃ text ≡ unionMade c₂ table₂ text (n₁ .0) (n₂ .0)) where
+      module _ {c₂ : Counts} {n₂ : NodeNo} (e₂ : m₂ ≡ Node c₂ n₂) {m₃ : Made} {table₃ : List ℕ}
+          (o : outcome m₃ table₃ text ≡ unionMade c₂ table₂ text (n₁ .0) (n₂ .0)) where
         ran-joined : Ran c table text joined m₃ table₃
         ran-joined =
             let t = at r (at-adds (w .place) other-adds) ran-other e₂ in
-            go-made (t .0) (λ s. union s (n₁ .0) (other .node)) joined-adds (two (t .0) (n₁ .0) (other .node) (stays-there other-adds there₁) (other-adds .present)) refl (rw (t .1) at o)
+            go-made (t .0) (λ s. union s (n₁ .0) (other .node)) joined-adds (two (t .0) (n₁ .0) (other .node) (stays-there other-adds there₁) (other-adds .present)) refl
+            (rw (t .1) at o)
 
         all-adds : Adds first joined
         all-adds = at-adds (w .place) (adds-then other-adds joined-adds)

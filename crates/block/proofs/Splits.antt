@@ -32,7 +32,8 @@ use Rattle.block.proofs.Loops.{on-hand}
 pub rest-all : {A : Type 0} (xs : List A) (k : ℕ) → take (length xs - k) (drop k xs) ≡ drop k xs
 rest-all xs k = take-all (length xs - k) (drop k xs) (rw (length-drop k xs) (omega arith))
 
-module _ {c : Counts} {table text : List ℕ} (r : Ready c table text) {b : Block} {sh : Shared} {ps ss : List ℕ} (k : AllPresent c b sh ps ss) (qs : List Bool) (split : ℕ) where
+module _ {c : Counts} {table text : List ℕ} (r : Ready c table text) {b : Block} {sh : Shared} {ps ss : List ℕ} (k : AllPresent c b sh ps ss) (qs : List Bool)
+    (split : ℕ) where
   abbrev s₀ : Draft
   s₀ = counted c table text
 
@@ -90,9 +91,15 @@ module _ {c : Counts} {table text : List ℕ} (r : Ready c table text) {b : Bloc
       t₁ = at r d₁ ran₁ x₁
 
       pub split-asks₂ : Ready c₁ table₁ text × Bodied c₁ b × Shares c₁ sh × (hasAll c₁ (drop split ss) ≡ true)
-      split-asks₂ = (ready (t₁ .0), bodied-later (t₁ .0) (k .bodied), shares-later (t₁ .0) (k .shares), counted-list (t₁ .0) (drop split ss) (below-drop _ split ss (on-still d₁ on .behind)))
+      split-asks₂ = (
+        ready (t₁ .0),
+        bodied-later (t₁ .0) (k .bodied),
+        shares-later (t₁ .0) (k .shares),
+        counted-list (t₁ .0) (drop split ss) (below-drop _ split ss (on-still d₁ on .behind)),
+      )
 
-      module _ {q : Bool} (asked : q ≡ bare (counted c₁ table₁ text) before) {m₂ : Made} {table₂ : List ℕ} (ran₂ : Ran c₁ table₁ text (core (counted c₁ table₁ text) b sh q (drop split ss)) m₂ table₂) where
+      module _ {q : Bool} (asked : q ≡ bare (counted c₁ table₁ text) before) {m₂ : Made} {table₂ : List ℕ}
+          (ran₂ : Ran c₁ table₁ text (core (counted c₁ table₁ text) b sh q (drop split ss)) m₂ table₂) where
         so₂ : Ran c table text middle m₂ table₂
         so₂ = go (t₁ .0) (λ s. core s b sh (bare s before) (drop split ss)) d₂ (rw asked at ran₂)
 
@@ -103,7 +110,8 @@ module _ {c : Counts} {table text : List ℕ} (r : Ready c table text) {b : Bloc
           t₂ : At c table text (middle .draft) c₂ table₂ × (n₂ .0 ≡ middle .node)
           t₂ = at r e₂ so₂ x₂
 
-          pub split-asks₃ : length qs ≡ length ps → Ready c₂ table₂ text × Bodied c₂ b × (n₂ .0 < c₂ .nodes) × (hasAll c₂ (drop split ps) ≡ true) × (length (drop split qs) ≡ length (drop split ps))
+          pub split-asks₃ : length qs ≡ length ps
+              → Ready c₂ table₂ text × Bodied c₂ b × (n₂ .0 < c₂ .nodes) × (hasAll c₂ (drop split ps) ≡ true) × (length (drop split qs) ≡ length (drop split ps))
           split-asks₃ e = (
             ready (t₂ .0),
             bodied-later (t₂ .0) (k .bodied),
@@ -124,7 +132,12 @@ module _ {c : Counts} {table text : List ℕ} (r : Ready c table text) {b : Bloc
               t₃ = at r e₃ so₃ x₃
 
               pub split-asks₄ : Ready c₃ table₃ text × Shares c₃ sh × (n₃ .0 < c₃ .nodes) × (hasAll c₃ (take split ss) ≡ true)
-              split-asks₄ = (ready (t₃ .0), shares-later (t₃ .0) (k .shares), rw (t₃ .1) (counted-node (t₃ .0) (d₃ .present)), counted-list (t₃ .0) (take split ss) (below-take _ split ss (on-still e₃ on .behind)))
+              split-asks₄ = (
+                ready (t₃ .0),
+                shares-later (t₃ .0) (k .shares),
+                rw (t₃ .1) (counted-node (t₃ .0) (d₃ .present)),
+                counted-list (t₃ .0) (take split ss) (below-take _ split ss (on-still e₃ on .behind)),
+              )
 
               module _ {m₄ : Made} {table₄ : List ℕ} (ran₄ : Ran c₃ table₃ text (tail (counted c₃ table₃ text) sh (n₃ .0) (take split ss)) m₄ table₄) where
                 so₄ : Ran c table text back m₄ table₄
@@ -133,8 +146,10 @@ module _ {c : Counts} {table text : List ℕ} (r : Ready c table text) {b : Bloc
                 pub split-stop₄ : {why : Why} → m₄ ≡ Refused why → Ran c table text whole m₄ table₄
                 split-stop₄ x = stop r (adds-then e₃ d₄) so₄ x d₅
 
-                pub split-last : {c₄ : Counts} {n₄ : NodeNo} → m₄ ≡ Node c₄ n₄ → {m₅ : Made} {table₅ : List ℕ} → outcome m₅ table₅ text ≡ appendMade c₄ table₄ text (n₁ .0) (n₄ .0) → Ran c table text whole m₅ table₅
+                pub split-last : {c₄ : Counts} {n₄ : NodeNo} → m₄ ≡ Node c₄ n₄ → {m₅ : Made} {table₅ : List ℕ}
+                    → outcome m₅ table₅ text ≡ appendMade c₄ table₄ text (n₁ .0) (n₄ .0) → Ran c table text whole m₅ table₅
                 unfolding alternative
                 split-last x₄ o =
                     let t₄ = at r (adds-then e₃ d₄) so₄ x₄ in
-                    go-made (t₄ .0) (λ s. append s (front .node) (back .node)) d₅ (two (t₄ .0) (front .node) (back .node) (front-there b sh ps ss qs s₀ split on) (d₄ .present)) refl (rw (t₁ .1, t₄ .1) at o)
+                    go-made (t₄ .0) (λ s. append s (front .node) (back .node)) d₅
+                    (two (t₄ .0) (front .node) (back .node) (front-there b sh ps ss qs s₀ split on) (d₄ .present)) refl (rw (t₁ .1, t₄ .1) at o)

@@ -62,7 +62,8 @@ module _ (s : Draft) where
   none-there : b₁ .node < b₃ .draft .counts .nodes
   none-there = stays-there d₃ (stays-there d₂ (d₁ .present))
 
-  module _ (b : Block) (ps ss : List ℕ) (qs : List Bool) (others : ℕ) (body : b .body .0 < s .counts .nodes) (before : Below (s .counts .nodes) ps) (behind : Below (s .counts .nodes) ss) where
+  module _ (b : Block) (ps ss : List ℕ) (qs : List Bool) (others : ℕ) (body : b .body .0 < s .counts .nodes) (before : Below (s .counts .nodes) ps)
+      (behind : Below (s .counts .nodes) ss) where
     abbrev b₄ : Built
     b₄ = alternative (b₃ .draft) b sh ps ss qs (suc others)
 
@@ -126,12 +127,14 @@ module _ {c : Counts} {table text : List ℕ} (r : Ready c table text) {b : Bloc
       pub start-stop₂ : {why : Why} → m₂ ≡ Refused why → Ran c table text whole m₂ table₂
       start-stop₂ x = stop r a₁₂ so₂ x (adds-then (d₃ s₀) (adds-then a₄ a₅))
 
-      module _ {c₂ : Counts} {n₂ : NodeNo} (x₂ : m₂ ≡ Node c₂ n₂) {m₃ : Made} {table₃ : List ℕ} (o₃ : outcome m₃ table₃ text ≡ flatAltMade c₂ table₂ text (n₂ .0) (n₁ .0)) where
+      module _ {c₂ : Counts} {n₂ : NodeNo} (x₂ : m₂ ≡ Node c₂ n₂) {m₃ : Made} {table₃ : List ℕ}
+          (o₃ : outcome m₃ table₃ text ≡ flatAltMade c₂ table₂ text (n₂ .0) (n₁ .0)) where
         so₃ : Ran c table text (b₃ s₀) m₃ table₃
         so₃ =
             let t = at r a₁₂ so₂ x₂ in
             let n = at r (d₁ s₀) so₁ x₁ .1 in
-            go-made (t .0) (λ s. flatAlt s (b₂ s₀ .node) (b₁ s₀ .node)) (d₃ s₀) (two (t .0) (b₂ s₀ .node) (b₁ s₀ .node) (d₂ s₀ .present) (stays-there (d₂ s₀) (d₁ s₀ .present))) refl (rw (t .1, n) at o₃)
+            go-made (t .0) (λ s. flatAlt s (b₂ s₀ .node) (b₁ s₀ .node)) (d₃ s₀)
+            (two (t .0) (b₂ s₀ .node) (b₁ s₀ .node) (d₂ s₀ .present) (stays-there (d₂ s₀) (d₁ s₀ .present))) refl (rw (t .1, n) at o₃)
 
         pub start-stop₃ : {why : Why} → m₃ ≡ Refused why → Ran c table text whole m₃ table₃
         start-stop₃ x = stop r (d₁₂₃ s₀) so₃ x (adds-then a₄ a₅)
@@ -158,7 +161,8 @@ module _ {c : Counts} {table text : List ℕ} (r : Ready c table text) {b : Bloc
           pub start-asks₄ : Ready c₃ table₃ text × AllPresent c₃ b (record { none = n₁; guard = n₃ }) ps ss × Even (length ps) ps ss qs
           start-asks₄ = (ready (t₃ .0), hand, k .even)
 
-          module _ {m₄ : Made} {table₄ : List ℕ} (ran₄ : Ran c₃ table₃ text (alternative (counted c₃ table₃ text) b (record { none = n₁; guard = n₃ }) ps ss qs (length ps)) m₄ table₄) where
+          module _ {m₄ : Made} {table₄ : List ℕ}
+              (ran₄ : Ran c₃ table₃ text (alternative (counted c₃ table₃ text) b (record { none = n₁; guard = n₃ }) ps ss qs (length ps)) m₄ table₄) where
             so₄ : Ran c table text (b₄ s₀ b ps ss qs others the-body the-before the-behind) m₄ table₄
             so₄ =
                 let all : length ps ≡ suc others = let h = k .some in omega arith in
@@ -178,7 +182,8 @@ module _ {c : Counts} {table text : List ℕ} (r : Ready c table text) {b : Bloc
                     rw shared-is
                         (record {
                           bodied = bodied-later (t₄ .0) (k .bodied);
-                          shares = record { none = counted-node (t₄ .0) (stays-there a₄ (none-there s₀)); guard = counted-node (t₄ .0) (stays-there a₄ (d₃ s₀ .present)) };
+                          shares =
+                              record { none = counted-node (t₄ .0) (stays-there a₄ (none-there s₀)); guard = counted-node (t₄ .0) (stays-there a₄ (d₃ s₀ .present)) };
                           before = of-below c₄ ps (below-more ps l (below-of c ps (k .before)));
                           behind = of-below c₄ ss (below-more ss l (below-of c ss (k .behind)));
                         }),
@@ -186,6 +191,9 @@ module _ {c : Counts} {table text : List ℕ} (r : Ready c table text) {b : Bloc
                     rw (t₄ .1) (counted-node (t₄ .0) (a₄ .present)),
                   )
 
-              pub start-last : {m₅ : Made} {table₅ : List ℕ} → Ran c₄ table₄ text (unions (counted c₄ table₄ text) b (record { none = n₁; guard = n₃ }) ps ss qs (n₄ .0) (length ps - 1)) m₅ table₅ → Ran c table text whole m₅ table₅
+              pub start-last : {m₅ : Made} {table₅ : List ℕ}
+                  → Ran c₄ table₄ text (unions (counted c₄ table₄ text) b (record { none = n₁; guard = n₃ }) ps ss qs (n₄ .0) (length ps - 1)) m₅ table₅
+                  → Ran c table text whole m₅ table₅
               unfolding layouts
-              start-last ran₅ = go (t₄ .0) (λ s. unions s b (sh s₀) ps ss qs (b₄ s₀ b ps ss qs others the-body the-before the-behind .node) others) a₅ (rw (shared-is, t₄ .1) at ran₅)
+              start-last ran₅ =
+                  go (t₄ .0) (λ s. unions s b (sh s₀) ps ss qs (b₄ s₀ b ps ss qs others the-body the-before the-behind .node) others) a₅ (rw (shared-is, t₄ .1) at ran₅)

@@ -14,16 +14,19 @@ same-length c = search needs
 returns : tie.Need-returns
 unfolding guarded
 returns c =
-    let at2 = c .before .before in
-    let at4 = at2 .before .before in
-    let start = at4 .before .before .before .before in
-    rw
-    (at4 .if1 .taken)
-    (ran-append (start .pre .0) (start .args .n .0) (start .args .shared .guard .0) (start .pre .2) (start .pre .1 .guard) (at2 .append .ensures))
+    let after-append = c .before .before in
+    let then1 = after-append .before .before in
+    let start = then1 .before .before .before .before in
+    let args = start .args in
+    rw (then1 .if1 .taken)
+    (ran-append (start .pre .0) (args .n .0) (args .shared .guard .0) (start .pre .2) (start .pre .1 .guard) (after-append .append .ensures))
 
 returns-2 : tie.Need-returns-2
 unfolding guarded
-returns-2 c = rw (c .if1 .left) (ran-older (c .before .before .before .before .pre .0) (c .before .before .before .before .args .n))
+returns-2 c =
+    let start = c .before .before .before .before in
+    let args = start .args in
+    rw (c .if1 .left) (ran-older (start .pre .0) (args .n))
 
 pub guarded-spec : {M : Type 1} → statement M
 guarded-spec = tie.close (tie.spec append-requires same-length returns returns-2)

@@ -12,9 +12,9 @@ use Rattle.block.proofs.affixes.list.Tie as tie
 returns : tie.Need-returns
 returns c =
     let start = c .before .before .before .before in
-    rw
-    (list-none (counted (start .args .c) (start .args .table .now) (start .args .text .now)) (start .args .none .0) (start .args .nodes .now) (c .if1 .taken))
-    (ran-older (start .pre .0) (start .args .none))
+    let args = start .args in
+    rw (list-none (counted (args .c) (args .table .now) (args .text .now)) (args .none .0) (args .nodes .now) (c .if1 .taken))
+    (ran-older (start .pre .0) (args .none))
 
 concat-requires : tie.Need-concat-requires
 concat-requires c κs = search needs
@@ -24,16 +24,17 @@ same-length c = search needs
 
 returns-2 : tie.Need-returns-2
 returns-2 c =
-    let at2 = c .before .before in
-    let at4 = at2 .before .before in
-    let start = at4 .before .before .before .before in
-    let text-2 = start .args .text .now in
-    let table-2 = start .args .table .now in
-    let nodes-2 = start .args .nodes .now in
-    let the-counted = counted (start .args .c) table-2 text-2 in
-    rw
-    (list-some the-counted (start .args .none .0) nodes-2 (at4 .if1 .left))
-    (ran-made (start .pre .0) (λ s. concat s nodes-2) (concat-adds the-counted nodes-2 (start-list (start .pre .0) nodes-2 (start .pre .2))) (start .pre .2) refl (at2 .concat .ensures))
+    let after-concat = c .before .before in
+    let else1 = after-concat .before .before in
+    let start = else1 .before .before .before .before in
+    let args = start .args in
+    let text-2 = args .text .now in
+    let table-2 = args .table .now in
+    let nodes-2 = args .nodes .now in
+    let the-counted = counted (args .c) table-2 text-2 in
+    rw (list-some the-counted (args .none .0) nodes-2 (else1 .if1 .left))
+    (ran-made (start .pre .0) (λ s. concat s nodes-2) (concat-adds the-counted nodes-2 (start-list (start .pre .0) nodes-2 (start .pre .2)))
+    (start .pre .2) refl (after-concat .concat .ensures))
 
 pub list-spec : {M : Type 1} → statement M
 list-spec = tie.close (tie.spec returns concat-requires same-length returns-2)
