@@ -2,15 +2,13 @@
 use borrow.Author.Needs.{needs}
 use mathlib.Core.Path.{_∙_}
 use native.Mathlib.Omega.{arith}
-use Prim.Native.Nat.{_-_, _≤_}
-use lib.ListN.{length}
 use Rattle.build.proofs.Stand.{same-words}
-use Rattle.block.proofs.Loops.{Wrapping, wrap-turn, wrap-zero, wrap-start, wrap-asks, wrap-stop, wrap-next, wrap-end}
+use Rattle.block.proofs.Loops.{Wrapping, wrap-start, wrap-asks, wrap-stop, wrap-next, wrap-end}
 use Rattle.block.proofs.parts.wraps.Statement.{statement}
 use Rattle.block.proofs.parts.wraps.Tie as tie
 
 abbrev Inv-loop : tie.InvT-loop
-Inv-loop table₀ text block prefixes nests c₀ n₀ i₀ table c n i = (i ≤ length prefixes) × Wrapping c₀ table₀ text block n₀ prefixes nests i c n table
+Inv-loop table₀ text block prefixes nests c₀ n₀ i₀ table c n i = Wrapping c₀ table₀ text block n₀ prefixes nests i c n table
 
 abbrev μ-loop : tie.MeasureT-loop
 μ-loop table₀ text block prefixes nests c₀ n₀ i₀ table c n i = i
@@ -22,10 +20,8 @@ start-of c = c .before .before .before .before .before
 loop-holds : tie.Need-loop-holds Inv-loop μ-loop
 loop-holds c =
     let start = c .before .before .before .before in
-    let args = start .args in (
-      omega arith,
-      wrap-start (start .pre .0) (start .pre .1) (args .n) (start .pre .2) (args .prefixes .now) (args .nests .now) (start .pre .3) (start .pre .4),
-    )
+    let args = start .args in
+    wrap-start (start .pre .0) (start .pre .1) (args .n) (start .pre .2) (args .prefixes .now) (args .nests .now) (start .pre .3) (start .pre .4)
 
 sub-i : tie.Need-sub-i Inv-loop μ-loop
 sub-i c = omega (arith, c .loop-test .taken)
@@ -34,18 +30,18 @@ mul-t17 : tie.Need-mul-t17 Inv-loop μ-loop
 mul-t17 c =
     let in-loop = c .before in
     let turn = in-loop .before in
-    omega (arith, in-loop .loop-test .taken, turn .loop .inv .0, (start-of turn) .good)
+    omega (arith, in-loop .loop-test .taken, turn .loop .inv .inside, (start-of turn) .good)
 
 shared-slice-read-t19 : tie.Need-shared-slice-read-t19 Inv-loop μ-loop
 shared-slice-read-t19 c =
     let in-loop = c .before .before in
-    omega (arith, in-loop .loop-test .taken, in-loop .before .loop .inv .0)
+    omega (arith, in-loop .loop-test .taken, in-loop .before .loop .inv .inside)
 
 shared-slice-read-wrap : tie.Need-shared-slice-read-wrap Inv-loop μ-loop
 shared-slice-read-wrap c =
     let in-loop = c .before .before .before in
     let turn = in-loop .before in
-    omega (arith, in-loop .loop-test .taken, turn .loop .inv .0, (start-of turn) .pre .4)
+    omega (arith, in-loop .loop-test .taken, turn .loop .inv .inside, (start-of turn) .pre .4)
 
 wrap-requires : tie.Need-wrap-requires Inv-loop μ-loop
 wrap-requires c κs =
@@ -53,12 +49,8 @@ wrap-requires c κs =
     let turn = in-loop .before in
     let start = start-of turn in
     let args = start .args in
-    let nests-2 = args .nests .now in
-    let prefixes-2 = args .prefixes .now in
-    wrap-asks (start .pre .0) (start .pre .1) (args .n) (start .pre .2) prefixes-2 nests-2 (start .pre .3) (start .pre .4) (turn .loop .i - 1)
-    (omega (arith, in-loop .loop-test .taken, turn .loop .inv .0))
-    (wrap-turn (args .c) (args .table .now) (args .text .now) (args .block) (args .n) prefixes-2 nests-2 (turn .loop .i) (in-loop .loop-test .taken)
-    (turn .loop .inv .1))
+    wrap-asks (start .pre .0) (start .pre .1) (args .n) (start .pre .2) (args .prefixes .now) (args .nests .now) (start .pre .3) (start .pre .4)
+    (in-loop .loop-test .taken) (turn .loop .inv)
 
 enum-known-made : tie.Need-enum-known-made Inv-loop μ-loop
 enum-known-made c = search needs
@@ -70,7 +62,7 @@ same-length : tie.Need-same-length Inv-loop μ-loop
 same-length c =
     let after-wrap = c .before .before .before .before in
     let turn = after-wrap .before .before .before .before .before in
-    after-wrap .wrap .kept .1 .0 ∙ same-words (turn .loop .inv .1 .place .stands)
+    after-wrap .wrap .kept .1 .0 ∙ same-words (turn .loop .inv .place .stands)
 
 returns : tie.Need-returns Inv-loop μ-loop
 returns c =
@@ -79,13 +71,8 @@ returns c =
     let turn = in-loop .before in
     let start = start-of turn in
     let args = start .args in
-    let nests-2 = args .nests .now in
-    let prefixes-2 = args .prefixes .now in
-    wrap-stop (start .pre .0) (start .pre .1) (args .n) (start .pre .2) prefixes-2 nests-2 (start .pre .3) (start .pre .4) (turn .loop .i - 1)
-    (omega (arith, in-loop .loop-test .taken, turn .loop .inv .0))
-    (wrap-turn (args .c) (args .table .now) (args .text .now) (args .block) (args .n) prefixes-2 nests-2 (turn .loop .i) (in-loop .loop-test .taken)
-    (turn .loop .inv .1))
-    (after-wrap .wrap .ensures) (c .enum-told .given .1)
+    wrap-stop (start .pre .0) (start .pre .1) (args .n) (start .pre .2) (args .prefixes .now) (args .nests .now) (start .pre .3) (start .pre .4)
+    (in-loop .loop-test .taken) (turn .loop .inv) (after-wrap .wrap .ensures) (c .enum-told .given .1)
 
 loop-less : tie.Need-loop-less Inv-loop μ-loop
 loop-less c =
@@ -100,29 +87,19 @@ loop-again c =
     let turn = in-loop .before in
     let start = start-of turn in
     let args = start .args in
-    let nests-2 = args .nests .now in
-    let prefixes-2 = args .prefixes .now in (
-      omega (arith, turn .loop .inv .0),
-      wrap-next (start .pre .0) (start .pre .1) (args .n) (start .pre .2) prefixes-2 nests-2 (start .pre .3) (start .pre .4) (turn .loop .i - 1)
-          (omega (arith, in-loop .loop-test .taken, turn .loop .inv .0))
-          (wrap-turn (args .c) (args .table .now) (args .text .now) (args .block) (args .n) prefixes-2 nests-2 (turn .loop .i) (in-loop .loop-test .taken)
-          (turn .loop .inv .1))
-          (after-wrap .wrap .ensures) (after-made .made .given .1),
-    )
+    wrap-next (start .pre .0) (start .pre .1) (args .n) (start .pre .2) (args .prefixes .now) (args .nests .now) (start .pre .3) (start .pre .4)
+    (in-loop .loop-test .taken) (turn .loop .inv) (after-wrap .wrap .ensures) (after-made .made .given .1)
 
 same-length-2 : tie.Need-same-length-2 Inv-loop μ-loop
-same-length-2 c = same-words (c .before .loop .inv .1 .place .stands)
+same-length-2 c = same-words (c .before .loop .inv .place .stands)
 
 returns-2 : tie.Need-returns-2 Inv-loop μ-loop
 returns-2 c =
     let turn = c .before in
     let start = start-of turn in
     let args = start .args in
-    let nests-2 = args .nests .now in
-    let prefixes-2 = args .prefixes .now in
-    wrap-end (start .pre .0) (start .pre .1) (args .n) (start .pre .2) prefixes-2 nests-2 (start .pre .3) (start .pre .4)
-    (wrap-zero (args .c) (args .table .now) (args .text .now) (args .block) (args .n) prefixes-2 nests-2 (turn .loop .i) (c .loop-test .left)
-    (turn .loop .inv .1))
+    wrap-end (start .pre .0) (start .pre .1) (args .n) (start .pre .2) (args .prefixes .now) (args .nests .now) (start .pre .3) (start .pre .4)
+    (c .loop-test .left) (turn .loop .inv)
 
 pub wraps-spec : {M : Type 1} → statement M
 wraps-spec =
