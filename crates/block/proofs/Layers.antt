@@ -1,6 +1,6 @@
 -- Each layer of a block around its Head and Tail only adds nodes, and answers one that is there.
 --     below-take, below-drop              parts of a list of present nodes
---     On, on-more                         all that an alternative has at hand is there, and stays there
+--     On, on-more                         all that an alternative names is there, and stays there
 --     nested-adds .. unions-adds          each layer
 -- Assumes nothing.
 use Prim.Native.Nat.{ℕ, zero, suc, _≤_, _<_}
@@ -72,7 +72,7 @@ wraps-adds s b n (p ∷ ps) (q ∷ qs) h l =
 
 -- ---- the alternatives
 
--- all that an alternative has at hand is there
+-- all that an alternative names is there
 pub record On (N : ℕ) (b : Block) (sh : Shared) (prefixes suffixes : List ℕ) : Type 0 where
   pub body : b .body .0 < N
   pub none : sh .none .0 < N

@@ -149,9 +149,9 @@ module _ {c : Counts} {table text : List ℕ} (r : Ready c table text) {b : Bloc
 
 -- ---- unions
 
-pub on-hand : {c : Counts} {table text : List ℕ} {b : Block} {sh : Shared} {ps ss : List ℕ} → Ready c table text → AllPresent c b sh ps ss
+pub on-present : {c : Counts} {table text : List ℕ} {b : Block} {sh : Shared} {ps ss : List ℕ} → Ready c table text → AllPresent c b sh ps ss
     → On (counted c table text .counts .nodes) b sh ps ss
-on-hand {ps = ps} {ss = ss} r k =
+on-present {ps = ps} {ss = ss} r k =
     record { body = start-node r (k .bodied .body); none = start-node r (k .shares .none); guard = start-node r (k .shares .guard); before = start-list r ps (k .before); behind = start-list r ss (k .behind) }
 
 pub present-later : {c : Counts} {table text : List ℕ} {s : Draft} {c₁ : Counts} {table₁ : List ℕ} {b : Block} {sh : Shared} {ps ss : List ℕ} → At c table text s c₁ table₁
@@ -211,7 +211,7 @@ module _ {c : Counts} {table text : List ℕ} (r : Ready c table text) {b : Bloc
     left-asks e = (ready (left .place), present-later (left .place) k, record { some = still .inside; behind = e .behind; flags = e .flags })
 
     on : On (s₁ .counts .nodes) b sh ps ss
-    on = on-hand (ready (left .place)) (present-later (left .place) k)
+    on = on-present (ready (left .place)) (present-later (left .place) k)
 
     there₁ : n₁ .0 < s₁ .counts .nodes
     there₁ = start-node (ready (left .place)) (left .there)

@@ -30,7 +30,7 @@ use Rattle.block.proofs.Heads.{of-below}
 use Rattle.block.proofs.Layers.{below-take, below-drop, On, on-still, front-adds, middle-adds, wrapped-adds, back-adds, front-there, join-adds}
 use Rattle.block.proofs.Chain.{Reached, reached, ready, go, go-made, stop, counted-node, counted-list, shares-later, two}
 use Rattle.block.proofs.Steps.{bodied-later}
-use Rattle.block.proofs.Loops.{on-hand}
+use Rattle.block.proofs.Loops.{on-present}
 
 -- ---- so many affixes before
 
@@ -73,7 +73,7 @@ module _ {c : Counts} {table text : List ℕ} (r : Ready c table text) {b : Bloc
   whole = alternative s₀ b sh ps ss qs split
 
   on : On (s₀ .counts .nodes) b sh ps ss
-  on = on-hand r k
+  on = on-present r k
 
   pub d₁ : Adds s₀ front
   d₁ = front-adds b sh ps ss qs s₀ split on

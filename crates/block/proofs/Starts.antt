@@ -147,8 +147,8 @@ module _ {c : Counts} {table text : List ℕ} (r : Ready c table text) {b : Bloc
           shared-is : record { none = n₁; guard = n₃ } ≡ sh s₀
           shared-is = let n = at r (d₁ s₀) so₁ x₁ .1 in λ i. record { none = record { 0 = n i }; guard = record { 0 = t₃ .1 i } }
 
-          hand : AllPresent c₃ b (record { none = n₁; guard = n₃ }) ps ss
-          hand =
+          all-present : AllPresent c₃ b (record { none = n₁; guard = n₃ }) ps ss
+          all-present =
               let l = later (t₃ .0) in
               rw shared-is
               (record {
@@ -159,7 +159,7 @@ module _ {c : Counts} {table text : List ℕ} (r : Ready c table text) {b : Bloc
               })
 
           pub start-asks₄ : Ready c₃ table₃ text × AllPresent c₃ b (record { none = n₁; guard = n₃ }) ps ss × Even (length ps) ps ss qs
-          start-asks₄ = (ready (t₃ .0), hand, k .even)
+          start-asks₄ = (ready (t₃ .0), all-present, k .even)
 
           module _ {m₄ : Made} {table₄ : List ℕ}
               (ran₄ : Ran c₃ table₃ text (alternative (counted c₃ table₃ text) b (record { none = n₁; guard = n₃ }) ps ss qs (length ps)) m₄ table₄) where

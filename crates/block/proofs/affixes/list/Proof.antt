@@ -28,12 +28,12 @@ returns-2 c =
     let else1 = after-concat .before .before in
     let start = else1 .before .before .before .before in
     let args = start .args in
-    let text-2 = args .text .now in
-    let table-2 = args .table .now in
-    let nodes-2 = args .nodes .now in
-    let the-counted = counted (args .c) table-2 text-2 in
-    rw (list-some the-counted (args .none .0) nodes-2 (else1 .if1 .left))
-    (ran-made (start .pre .0) (λ s. concat s nodes-2) (concat-adds the-counted nodes-2 (start-list (start .pre .0) nodes-2 (start .pre .2)))
+    let text = args .text .now in
+    let table = args .table .now in
+    let nodes = args .nodes .now in
+    let draft = counted (args .c) table text in
+    rw (list-some draft (args .none .0) nodes (else1 .if1 .left))
+    (ran-made (start .pre .0) (λ s. concat s nodes) (concat-adds draft nodes (start-list (start .pre .0) nodes (start .pre .2)))
     (start .pre .2) refl (after-concat .concat .ensures))
 
 pub list-spec : {M : Type 1} → statement M

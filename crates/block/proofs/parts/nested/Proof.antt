@@ -22,11 +22,11 @@ returns c =
     let then1 = after-nest .before .before in
     let start = then1 .before .before .before .before in
     let args = start .args in
-    let block-way = args .block .way in
-    let block-amount-0 = args .block .amount .0 in
+    let way = args .block .way in
+    let amount = args .block .amount .0 in
     rw (then1 .if1 .taken)
-    (ran-made (start .pre .0) (λ s. nest s (args .n .0) block-amount-0 block-way)
-    (nest-adds (counted (args .c) (args .table .now) (args .text .now)) (args .n .0) block-amount-0 block-way
+    (ran-made (start .pre .0) (λ s. nest s (args .n .0) amount way)
+    (nest-adds (counted (args .c) (args .table .now) (args .text .now)) (args .n .0) amount way
     (start-node (start .pre .0) (start .pre .2)))
     (lt-ltb _ _ (start .pre .2)) (start .pre .1 .amount) (after-nest .nest .ensures))
 
