@@ -20,8 +20,8 @@ use Rattle.build.specs.Constructors.{hasAll}
 use Rattle.build.proofs.Grow.{more-nodes}
 use Rattle.build.proofs.Joins.{Below, below-more}
 use Rattle.build.proofs.Only.{Adds, adds-then, older-adds, pick-adds, append-adds, group-adds, concat-adds}
-use Rattle.affixes.specs.declared.Shared.{Shared}
-use Rattle.affixes.specs.Affixes.{list, allNil, guarded, head, tail}
+use Rattle.block.specs.declared.Shared.{Shared}
+use Rattle.block.specs.Affixes.{list, allNil, guarded, head, tail}
 
 pub of-below : (c : Counts) (ns : List ℕ) → Below (c .nodes) ns → hasAll c ns ≡ true
 unfolding hasAll
@@ -81,14 +81,16 @@ module _ (s : Draft) where
 pub grouped : {s : Draft} {b : Built} → Adds s b → Adds s (group (b .draft) (b .node))
 grouped {s} {b} a = adds-then a (group-adds (b .draft) (b .node) (a .present))
 
-pub head-adds : (s : Draft) (sh : Shared) (before : List ℕ) → sh .none .0 < s .counts .nodes → sh .guard .0 < s .counts .nodes → Below (s .counts .nodes) before → Adds s (head s sh before)
+pub head-adds : (s : Draft) (sh : Shared) (before : List ℕ) → sh .none .0 < s .counts .nodes → sh .guard .0 < s .counts .nodes → Below (s .counts .nodes) before
+    → Adds s (head s sh before)
 unfolding head
 head-adds s sh before n g b =
     let first = list-adds s (sh .none .0) before n b in
     let joined = list s (sh .none .0) before in
     grouped (adds-then first (guarded-adds (joined .draft) sh (joined .node) (ltb 1 (length before)) (stays-there first g) (first .present)))
 
-pub tail-adds : (s : Draft) (sh : Shared) (n : ℕ) (before : List ℕ) → sh .none .0 < s .counts .nodes → n < s .counts .nodes → Below (s .counts .nodes) before → Adds s (tail s sh n before)
+pub tail-adds : (s : Draft) (sh : Shared) (n : ℕ) (before : List ℕ) → sh .none .0 < s .counts .nodes → n < s .counts .nodes → Below (s .counts .nodes) before
+    → Adds s (tail s sh n before)
 unfolding tail
 tail-adds s sh n before e h l =
     let suffixes = list s (sh .none .0) before in

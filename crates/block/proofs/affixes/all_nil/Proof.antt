@@ -5,10 +5,10 @@ use native.Mathlib.Omega.{arith}
 use Prim.Native.Nat.{_-_, _≤_}
 use lib.ListN.{length, drop}
 use Rattle.build.specs.Draft.{counted}
-use Rattle.affixes.specs.Affixes.{allNil}
-use Rattle.affixes.proofs.Layers.{nil-next, nil-not, nil-end}
-use Rattle.affixes.proofs.all_nil.Statement.{statement}
-use Rattle.affixes.proofs.all_nil.Tie as tie
+use Rattle.block.specs.Affixes.{allNil}
+use Rattle.block.proofs.Heads.{nil-next, nil-not, nil-end}
+use Rattle.block.proofs.affixes.all_nil.Statement.{statement}
+use Rattle.block.proofs.affixes.all_nil.Tie as tie
 
 abbrev Inv-loop : tie.InvT-loop
 Inv-loop c table text nodes i₀ i = (i ≤ length nodes) × (allNil (counted c table text) nodes ≡ allNil (counted c table text) (drop i nodes))
@@ -37,23 +37,34 @@ loop-less c = search needs
 loop-again : tie.Need-loop-again Inv-loop μ-loop
 unfolding counted
 loop-again c =
-    let at3 = c .before .before .before in
-    let at4 = at3 .before in
-    let start = at4 .before .before .before .before in
-    (omega arith, at4 .loop .inv .1 ∙ nil-next (counted (start .args .c) (start .args .table .now) (start .args .text .now)) (start .args .nodes .now) (at4 .loop .i) (at3 .loop-test .taken) (sym (c .before .is-nil .ensures) ∙ c .if1 .taken))
+    let after-is-nil = c .before in
+    let in-loop = after-is-nil .before .before in
+    let turn = in-loop .before in
+    let args = turn .before .before .before .before .args in (
+      omega arith,
+      turn .loop .inv .1
+          ∙ nil-next (counted (args .c) (args .table .now) (args .text .now)) (args .nodes .now) (turn .loop .i) (in-loop .loop-test .taken)
+          (sym (after-is-nil .is-nil .ensures) ∙ c .if1 .taken),
+    )
 
 returns : tie.Need-returns Inv-loop μ-loop
 unfolding counted
 returns c =
-    let at3 = c .before .before .before in
-    let at4 = at3 .before in
-    let start = at4 .before .before .before .before in
-    sym (at4 .loop .inv .1 ∙ nil-not (counted (start .args .c) (start .args .table .now) (start .args .text .now)) (start .args .nodes .now) (at4 .loop .i) (at3 .loop-test .taken) (sym (c .before .is-nil .ensures) ∙ c .if1 .left))
+    let after-is-nil = c .before in
+    let in-loop = after-is-nil .before .before in
+    let turn = in-loop .before in
+    let args = turn .before .before .before .before .args in
+    sym
+    (turn .loop .inv .1
+    ∙ nil-not (counted (args .c) (args .table .now) (args .text .now)) (args .nodes .now) (turn .loop .i) (in-loop .loop-test .taken)
+    (sym (after-is-nil .is-nil .ensures) ∙ c .if1 .left))
 
 returns-2 : tie.Need-returns-2 Inv-loop μ-loop
 returns-2 c =
-    let start = c .before .before .before .before .before in
-    sym (c .before .loop .inv .1 ∙ nil-end (counted (start .args .c) (start .args .table .now) (start .args .text .now)) (start .args .nodes .now) (c .before .loop .i) (c .loop-test .left))
+    let turn = c .before in
+    let args = turn .before .before .before .before .args in
+    sym
+    (turn .loop .inv .1 ∙ nil-end (counted (args .c) (args .table .now) (args .text .now)) (args .nodes .now) (turn .loop .i) (c .loop-test .left))
 
 pub all-nil-spec : {M : Type 1} → statement M
 all-nil-spec =

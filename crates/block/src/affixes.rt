@@ -5,22 +5,19 @@ ghost use mathlib.Core.Bool.{true};
 ghost use Prim.Native.Nat.{_<_};
 ghost use Rattle.build.specs.Draft.{counted};
 ghost use Rattle.build.specs.Constructors.{hasAll};
-ghost use Rattle.affixes.specs.Affixes.{list, allNil, bare, guarded, head, tail};
-ghost use Rattle.affixes.specs.Run.{Ready, Shares, Ran};
+ghost use Rattle.block.specs.Affixes.{list, allNil, bare, guarded, head, tail};
+ghost use Rattle.block.specs.Run.{Ready, Shares, Runs};
+use crate::Shared;
 use build::Counts;
 use build::Made;
 use table::NodeNo;
 
-// The Nil and the guard that all alternatives share.
-pub struct Shared {
-    pub none: NodeNo,
-    pub guard: NodeNo,
-}
-
 // A list joined by itself; an empty one is the shared Nil.
 pub fn list(c: Counts, table: &mut [u32], text: &[u8], none: NodeNo, nodes: &[u32]) -> Made
     requires { ⌜ Ready c (now table) (now text) × (none .0 < c .nodes) × (hasAll c (now nodes) ≡ true) ⌝ }
-    ensures { λ r. ⌜ Ran c (now (table .entry)) (now (text .entry)) (list (counted c (now (table .entry)) (now (text .entry))) (none .0) (now (nodes .entry))) r (now (table .exit)) ⌝ }
+    ensures { λ r. ⌜ Runs c (now (table .entry)) (now (text .entry))
+        (λ s. list s (none .0) (now (nodes .entry)))
+        r (now (table .exit)) ⌝ }
 {
     if nodes.len() == 0 {
         return Made::Node(c, none);
@@ -60,7 +57,9 @@ pub fn guarded(
     asked: bool,
 ) -> Made
     requires { ⌜ Ready c (now table) (now text) × Shares c shared × (n .0 < c .nodes) ⌝ }
-    ensures { λ r. ⌜ Ran c (now (table .entry)) (now (text .entry)) (guarded (counted c (now (table .entry)) (now (text .entry))) shared (n .0) asked) r (now (table .exit)) ⌝ }
+    ensures { λ r. ⌜ Runs c (now (table .entry)) (now (text .entry))
+        (λ s. guarded s shared (n .0) asked)
+        r (now (table .exit)) ⌝ }
 {
     let guard = shared.guard;
     if asked {
@@ -72,7 +71,9 @@ pub fn guarded(
 // A group of before's prefixes, then the guard if there is more than one.
 pub fn head(c: Counts, table: &mut [u32], text: &[u8], shared: Shared, before: &[u32]) -> Made
     requires { ⌜ Ready c (now table) (now text) × Shares c shared × (hasAll c (now before) ≡ true) ⌝ }
-    ensures { λ r. ⌜ Ran c (now (table .entry)) (now (text .entry)) (head (counted c (now (table .entry)) (now (text .entry))) shared (now (before .entry))) r (now (table .exit)) ⌝ }
+    ensures { λ r. ⌜ Runs c (now (table .entry)) (now (text .entry))
+        (λ s. head s shared (now (before .entry)))
+        r (now (table .exit)) ⌝ }
 {
     let none = shared.none;
     let first = list(c, table, text, none, before);
@@ -95,8 +96,13 @@ pub fn tail(
     n: NodeNo,
     before: &[u32],
 ) -> Made
-    requires { ⌜ Ready c (now table) (now text) × Shares c shared × (n .0 < c .nodes) × (hasAll c (now before) ≡ true) ⌝ }
-    ensures { λ r. ⌜ Ran c (now (table .entry)) (now (text .entry)) (tail (counted c (now (table .entry)) (now (text .entry))) shared (n .0) (now (before .entry))) r (now (table .exit)) ⌝ }
+    requires { ⌜ Ready c (now table) (now text)
+        × Shares c shared
+        × (n .0 < c .nodes)
+        × (hasAll c (now before) ≡ true) ⌝ }
+    ensures { λ r. ⌜ Runs c (now (table .entry)) (now (text .entry))
+        (λ s. tail s shared (n .0) (now (before .entry)))
+        r (now (table .exit)) ⌝ }
 {
     let none = shared.none;
     let first = list(c, table, text, none, before);

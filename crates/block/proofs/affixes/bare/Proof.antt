@@ -2,9 +2,9 @@
 use borrow.Author.Needs.{needs}
 use mathlib.Core.Path.{refl}
 use borrow.Author.Tests.{lt-ltb, le-ltb}
-use Rattle.affixes.specs.Affixes.{bare}
-use Rattle.affixes.proofs.bare.Statement.{statement}
-use Rattle.affixes.proofs.bare.Tie as tie
+use Rattle.block.specs.Affixes.{bare}
+use Rattle.block.proofs.affixes.bare.Statement.{statement}
+use Rattle.block.proofs.affixes.bare.Tie as tie
 
 all-nil-requires : tie.Need-all-nil-requires
 all-nil-requires c κs = search needs

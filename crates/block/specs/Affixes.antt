@@ -7,7 +7,7 @@ use lib.Dec.{ltb}
 use Rattle.choice.specs.Pick.{pick}
 use Rattle.build.specs.Draft.{Draft, Built, older}
 use Rattle.build.specs.Parts.{isNil, append, group, concat}
-use Rattle.affixes.specs.declared.Shared.{Shared}
+use Rattle.block.specs.declared.Shared.{Shared}
 
 -- a list joined by itself as `concat` does; an empty one is the shared Nil
 unfoldable pub list : Draft → ℕ → List ℕ → Built

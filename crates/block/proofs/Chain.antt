@@ -1,8 +1,9 @@
 -- How a run of parts goes on: from counts c over a table, part by part, until one is refused for want of nodes.
---     At             where the run stands: a sheet, counts and a table
+--     At             where the run stands: a draft, counts and a table
 --     begin, ready   before the first part; what the next part asks
 --     ran-made, ran-older   what a constructor promises, and a node given back, as a run of one part
 --     go, go-made, at, stop   one part more; its answer taken apart; handed on
+--     Reached, reached   where the code stands once a part is built
 --     shares-later, two   what is there stays there
 --     ran-append     Append as a run of one part
 --     first-stops .. group-last   two parts and a group
@@ -30,9 +31,9 @@ use Rattle.build.proofs.Room.{Fits, fits-of, of-fits, stretch, Room}
 use Rattle.build.proofs.Stand.{Stands, same-words, stands-counted, start, Went, went-added, taken, never, done}
 use Rattle.build.proofs.Joins.{Below, below-of}
 use Rattle.build.proofs.Only.{Adds, adds-then, append-adds, group-adds, made-whole, made-short}
-use Rattle.affixes.specs.declared.Shared.{Shared}
-use Rattle.affixes.specs.Run.{Ready, Shares, Ran}
-use Rattle.affixes.proofs.Layers.{of-below}
+use Rattle.block.specs.declared.Shared.{Shared}
+use Rattle.block.specs.Run.{Ready, Shares, Ran}
+use Rattle.block.proofs.Heads.{of-below}
 
 -- where a run that began with counts c over the table stands
 pub record At (c : Counts) (table text : List ℕ) (s : Draft) (c₁ : Counts) (table₁ : List ℕ) : Type 0 where
@@ -62,7 +63,8 @@ unfolding counted
 later a = rw (a .stands .counts) (more-nodes (a .grown))
 
 -- what is added from here on, seen from the start
-pub at-adds : {c : Counts} {table text : List ℕ} {s : Draft} {c₁ : Counts} {table₁ : List ℕ} {b : Built} → At c table text s c₁ table₁ → Adds s b → Adds (counted c table text) b
+pub at-adds : {c : Counts} {table text : List ℕ} {s : Draft} {c₁ : Counts} {table₁ : List ℕ} {b : Built} → At c table text s c₁ table₁ → Adds s b
+    → Adds (counted c table text) b
 unfolding counted
 at-adds a d = record { grown = then (a .grown) (d .grown); quiet = d .quiet ∙ a .quiet; present = d .present }
 
@@ -97,7 +99,8 @@ no-room c n m lent a b e = by (fits c m 1024 lent) refl
 -- ---- one part
 
 module _ {c : Counts} {table text : List ℕ} (r : Ready c table text) where
-  pub ran-made : (f : Draft → Built) → Adds (counted c table text) (f (counted c table text)) → {present amount : Bool} → present ≡ true → amount ≡ true → {m : Made} {table′ : List ℕ} → outcome m table′ text ≡ made c table text present amount true f → Ran c table text (f (counted c table text)) m table′
+  pub ran-made : (f : Draft → Built) → Adds (counted c table text) (f (counted c table text)) → {present amount : Bool} → present ≡ true → amount ≡ true
+      → {m : Made} {table′ : List ℕ} → outcome m table′ text ≡ made c table text present amount true f → Ran c table text (f (counted c table text)) m table′
   ran-made f a {present} {amount} p q o =
       let quiet : f (counted c table text) .draft .counts .bytes ≡ c .bytes = unfold counted in a .quiet in
       record {
@@ -117,7 +120,8 @@ module _ {c : Counts} {table text : List ℕ} (r : Ready c table text) where
 
 module _ {c : Counts} {table text : List ℕ} where
   -- one part more
-  pub go : {s : Draft} {c₁ : Counts} {table₁ : List ℕ} → At c table text s c₁ table₁ → (f : Draft → Built) → Adds s (f s) → {m : Made} {table₂ : List ℕ} → Ran c₁ table₁ text (f (counted c₁ table₁ text)) m table₂ → Ran c table text (f s) m table₂
+  pub go : {s : Draft} {c₁ : Counts} {table₁ : List ℕ} → At c table text s c₁ table₁ → (f : Draft → Built) → Adds s (f s) → {m : Made} {table₂ : List ℕ}
+      → Ran c₁ table₁ text (f (counted c₁ table₁ text)) m table₂ → Ran c table text (f s) m table₂
   go {s} {c₁} {table₁} a f d {m} {table₂} ran =
       let is = stands-counted (a .stands) in
       let ran′ : Ran c₁ table₁ text (f s) m table₂ = subst (λ (x : Draft). Ran c₁ table₁ text (f x) m table₂) is ran in
@@ -136,7 +140,8 @@ module _ {c : Counts} {table text : List ℕ} where
         short = λ q. by q (fits (c₁ .nodes) (f s .draft .counts .nodes) 1024 (length table₁ / 4)) refl ran′;
       }
     where
-      by : fits (c .nodes) (f s .draft .counts .nodes) 1024 (length table / 4) ≡ false → (b : Bool) → fits (c₁ .nodes) (f s .draft .counts .nodes) 1024 (length table₁ / 4) ≡ b → Ran c₁ table₁ text (f s) m table₂ → m ≡ Refused Nodes
+      by : fits (c .nodes) (f s .draft .counts .nodes) 1024 (length table / 4) ≡ false → (b : Bool)
+          → fits (c₁ .nodes) (f s .draft .counts .nodes) 1024 (length table₁ / 4) ≡ b → Ran c₁ table₁ text (f s) m table₂ → m ≡ Refused Nodes
       by q true e r =
           let n : s .counts .nodes ≤ f s .draft .counts .nodes = more-nodes (d .grown) in
           let e′ : fits (s .counts .nodes) (f s .draft .counts .nodes) 1024 (length table / 4) ≡ true = rw (a .stands .counts, same-words (a .stands)) at e in
@@ -191,15 +196,28 @@ module _ {c : Counts} {table text : List ℕ} where
         let none = no-room (c .nodes) (b .draft .counts .nodes) (b′ .draft .counts .nodes) (length table / 4) grows (more-nodes (d′ .grown)) (no-fit e) in
         record { whole = λ q. absurd (either _ q none); short = λ q. ran .short (no-fit e) }
 
+-- where the code stands once b is built: its counts, the node that it was answered and the table
+pub record Reached (c : Counts) (table text : List ℕ) (b : Built) : Type 0 where
+  pub counts : Counts
+  pub node : NodeNo
+  pub left : List ℕ
+  pub place : At c table text (b .draft) counts left
+  pub is : node .0 ≡ b .node
+
+abbrev pub reached : {c : Counts} {table text : List ℕ} {b : Built} {m : Made} {table₁ : List ℕ} → Ready c table text → Adds (counted c table text) b
+    → Ran c table text b m table₁ → {c₁ : Counts} {n₁ : NodeNo} → m ≡ Node c₁ n₁ → Reached c table text b
+reached {table₁ = table₁} r d ran {c₁} {n₁} e = let t = at r d ran e in record { counts = c₁; node = n₁; left = table₁; place = t .0; is = t .1 }
+
 -- ---- a constructor as the next part
 
 module _ {c : Counts} {table text : List ℕ} {s : Draft} {c₁ : Counts} {table₁ : List ℕ} (a : At c table text s c₁ table₁) where
-  pub go-made : (f : Draft → Built) → Adds s (f s) → {present amount : Bool} → present ≡ true → amount ≡ true → {m : Made} {table₂ : List ℕ} → outcome m table₂ text ≡ made c₁ table₁ text present amount true f → Ran c table text (f s) m table₂
+  pub go-made : (f : Draft → Built) → Adds s (f s) → {present amount : Bool} → present ≡ true → amount ≡ true → {m : Made} {table₂ : List ℕ}
+      → outcome m table₂ text ≡ made c₁ table₁ text present amount true f → Ran c table text (f s) m table₂
   go-made f d p q o =
       let d′ : Adds (counted c₁ table₁ text) (f (counted c₁ table₁ text)) = subst (λ (x : Draft). Adds x (f x)) (sym (stands-counted (a .stands))) d in
       go a f d (ran-made (ready a) f d′ p q o)
 
-  -- a node of the sheet is a present operand
+  -- a node of the draft is a present operand
   pub operand : (n : ℕ) → n < s .counts .nodes → has c₁ n ≡ true
   operand n h = rw (a .stands .counts) (lt-ltb n (s .counts .nodes) h)
 
@@ -226,13 +244,16 @@ unfolding counted
 start-list {c} r ns h = below-of c ns h
 
 -- Append as a run of one part
-pub ran-append : {c : Counts} {table text : List ℕ} → Ready c table text → (n m : ℕ) → n < c .nodes → m < c .nodes → {r : Made} {table′ : List ℕ} → outcome r table′ text ≡ appendMade c table text n m → Ran c table text (append (counted c table text) n m) r table′
+pub ran-append : {c : Counts} {table text : List ℕ} → Ready c table text → (n m : ℕ) → n < c .nodes → m < c .nodes → {r : Made} {table′ : List ℕ}
+    → outcome r table′ text ≡ appendMade c table text n m → Ran c table text (append (counted c table text) n m) r table′
 ran-append {c} {table} {text} k n m h j o =
-    ran-made k (λ s. append s n m) (append-adds (counted c table text) n m (start-node k h) (start-node k j)) (rw (lt-ltb n (c .nodes) h, lt-ltb m (c .nodes) j) refl) refl o
+    ran-made k (λ s. append s n m) (append-adds (counted c table text) n m (start-node k h) (start-node k j)) (rw (lt-ltb n (c .nodes) h, lt-ltb m (c .nodes) j) refl)
+    refl o
 
 -- ---- two parts and a group
 
-module _ {c : Counts} {table text : List ℕ} (r : Ready c table text) {b₁ : Built} (d₁ : Adds (counted c table text) b₁) (f₂ : Draft → Built) (d₂ : Adds (b₁ .draft) (f₂ (b₁ .draft))) where
+module _ {c : Counts} {table text : List ℕ} (r : Ready c table text) {b₁ : Built} (d₁ : Adds (counted c table text) b₁) (f₂ : Draft → Built)
+    (d₂ : Adds (b₁ .draft) (f₂ (b₁ .draft))) where
   abbrev b₂ : Built
   b₂ = f₂ (b₁ .draft)
 
@@ -253,7 +274,8 @@ module _ {c : Counts} {table text : List ℕ} (r : Ready c table text) {b₁ : B
       pub second-stops : {why : Why} → m₂ ≡ Refused why → Ran c table text both m₂ table₂
       second-stops e = stop r (adds-then d₁ d₂) so-far e d₃
 
-      pub group-last : {c₂ : Counts} {n₂ : NodeNo} → m₂ ≡ Node c₂ n₂ → {m₃ : Made} {table₃ : List ℕ} → outcome m₃ table₃ text ≡ groupMade c₂ table₂ text (n₂ .0) → Ran c table text both m₃ table₃
+      pub group-last : {c₂ : Counts} {n₂ : NodeNo} → m₂ ≡ Node c₂ n₂ → {m₃ : Made} {table₃ : List ℕ} → outcome m₃ table₃ text ≡ groupMade c₂ table₂ text (n₂ .0)
+          → Ran c table text both m₃ table₃
       group-last e o =
           let t = at r (adds-then d₁ d₂) so-far e in
           go-made (t .0) (λ s. group s (b₂ .node)) d₃ (operand (t .0) (b₂ .node) (d₂ .present)) refl (rw (t .1) at o)
