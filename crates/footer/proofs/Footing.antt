@@ -22,18 +22,18 @@ use Rattle.block.specs.declared.Block.{Block}
 use Rattle.block.specs.Block.{formatMade}
 use Rattle.block.specs.Documents.{blockDoc}
 use Rattle.block.proofs.Alternatives.{format-promise}
-use Rattle.pallets.specs.Lines.{lines}
-use Rattle.tolerance.specs.Standing.{rowCount, outNotes, Names}
-use Rattle.tolerance.specs.declared.Next.{Next}
-use Rattle.tolerance.specs.declared.Next.the-variants.{NoMore}
-use Rattle.pallets.proofs.Reading.{done}
-use Rattle.words.specs.Bytes.{Placed}
+use Rattle.buffer.specs.Parts.{lines}
+use Rattle.results.specs.Standing.{rowCount, outNotes, Names}
+use Rattle.results.specs.declared.tolerance.Next.{Next}
+use Rattle.results.specs.declared.tolerance.Next.the-variants.{NoMore}
+use Rattle.buffer.proofs.Reading.{done}
+use Rattle.buffer.specs.Placing.{Placed}
 use Rattle.footer.specs.Digits.{digits}
 use Rattle.words.specs.Documents.{leafDoc}
 use Rattle.words.specs.Build.{Is, Gives}
 use Rattle.footer.specs.Documents.{oneText, allText, withinText, withinDoc, commaDoc, headedDoc, toldDoc, footerDoc}
 use Rattle.words.proofs.Chain.{gives}
-use Rattle.words.proofs.Placing.{place-adds, placed-length, then-adds, written-at}
+use Rattle.buffer.proofs.Placing.{place-adds, placed-length, then-adds, written-at}
 use Rattle.footer.proofs.Digits.{number-fits}
 
 -- ---- all within tolerance

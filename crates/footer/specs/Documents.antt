@@ -8,7 +8,7 @@ use Rattle.choice.specs.Pick.{pick}
 use Rattle.table.specs.Document.{Doc, nil, hardline}
 use Rattle.build.specs.Documents.{appendDoc, lineDoc, softlineDoc, concatDoc, intersperseDoc}
 use Rattle.block.specs.Documents.{blockDoc}
-use Rattle.tolerance.specs.Standing.{rowCount, outNotes}
+use Rattle.results.specs.Standing.{rowCount, outNotes}
 use Rattle.words.specs.Documents.{leafDoc}
 use Rattle.footer.specs.Digits.{digits}
 

@@ -6,27 +6,27 @@ ghost use lib.ListN.{length, drop};
 ghost use mathlib.Core.List.{[], map};
 ghost use Rattle.table.specs.Document.{Doc, nil};
 ghost use Rattle.build.specs.Documents.{softlineDoc, intersperseDoc};
-ghost use Rattle.pallets.specs.Lines.{lines};
-ghost use Rattle.tolerance.specs.Standing.{outNotes};
+ghost use Rattle.buffer.specs.Parts.{lines};
+ghost use Rattle.results.specs.Standing.{outNotes};
 ghost use Rattle.footer.specs.Digits.{digitsOn};
 ghost use Rattle.words.specs.Documents.{leafDoc};
 ghost use Rattle.footer.specs.Documents.{withinDoc, commaDoc, headedDoc, toldDoc, footerDoc};
 ghost use Rattle.words.specs.Build.{Is, Shares, Gives};
 use block::Block;
+use buffer::parts::behind;
+use buffer::parts::front;
+use buffer::parts::put;
 use build::Counts;
 use build::Made;
-use pallets::bytes::front;
+use results::tolerance::Next;
+use results::tolerance::count;
+use results::tolerance::next_out;
 use table::Indent;
 use table::NodeNo;
-use tolerance::Next;
-use tolerance::count;
-use tolerance::next_out;
 use words::BELOW;
 use words::Shared;
 use words::add_word;
-use words::texts::behind;
 use words::texts::leaf;
-use words::texts::put;
 
 // Puts a number's digits at the end; gives where the first of them stands.
 fn put_digits(out: &mut [u8], n: usize) -> usize

@@ -9,12 +9,12 @@ use mathlib.Core.List.{List, [], _∷_, _++_}
 use lib.ListN.{length, take, drop, replicate}
 use borrow.Author.Tests.{eq-eqb, ne-eqb}
 use Rattle.table.specs.Document.{Doc, annotated}
-use Rattle.pallets.specs.Lines.{indexOf, characters}
-use Rattle.pallets.specs.declared.Pallet.{Pallet}
-use Rattle.words.specs.Bytes.{Placed, Adds}
+use Rattle.buffer.specs.Parts.{indexOf, characters}
+use Rattle.results.specs.declared.Pallet.{Pallet}
+use Rattle.buffer.specs.Placing.{Placed, Adds}
 use Rattle.row.specs.Fields.{field, right, fields}
 use Rattle.row.specs.Documents.{markedDoc}
-use Rattle.words.proofs.Placing.{place-adds, placed-length, then-adds}
+use Rattle.buffer.proofs.Placing.{place-adds, placed-length, then-adds}
 
 -- ---- fields
 

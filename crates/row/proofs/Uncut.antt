@@ -15,19 +15,20 @@ use borrow.Author.Tests.{le-leb, lt-leb, leb-true, ltb-false}
 use Rattle.choice.specs.Pick.{pick}
 use Rattle.buffer.specs.Utf8.{Range, to, within, tail, Start, start, follow, never, owed, wellFormed}
 use Rattle.choice.proofs.Tests.{and-true}
-use Rattle.pallets.specs.Lines.{indexOf, goesOn, characters, blank, controls}
-use Rattle.pallets.specs.Numbers.{numberOf, tenthsAdd, tenthsOf}
-use Rattle.pallets.specs.Numbers as numbers
-use Rattle.pallets.specs.Pallets.{separator, cutsAt, fieldsOf, between, measured, palletOf, palletAt, said, parsed}
-use Rattle.pallets.specs.declared.Pallet.{Pallet}
-use Rattle.pallets.specs.declared.Fault.{Fault}
-use Rattle.pallets.specs.declared.Fault.the-variants.{TooLong, NotUtf8, Control, NoForce, NoPluck, NoRemark, Note, Force, Pluck}
-use Rattle.pallets.specs.declared.Cuts.the-variants.{At, Missing}
-use Rattle.pallets.specs.declared.Line.{Line}
-use Rattle.pallets.specs.declared.Line.the-variants.{Empty, Heading, Row, Bad}
-use Rattle.pallets.specs.declared.numbers.Amount.{Amount}
-use Rattle.pallets.specs.declared.numbers.Amount.the-variants.{Is, NoNumber}
-use Rattle.pallets.proofs.Saying.{index-within}
+use Rattle.buffer.specs.Parts.{indexOf, goesOn, characters, blank, controls}
+use Rattle.results.specs.Numbers.{numberOf, tenthsAdd, tenthsOf}
+use Rattle.results.specs.Numbers as numbers
+use Rattle.results.specs.Pallets.{separator, cutsAt, fieldsOf, measured, palletOf, palletAt, said, parsed}
+use Rattle.buffer.specs.Parts.{between}
+use Rattle.results.specs.declared.Pallet.{Pallet}
+use Rattle.results.specs.declared.Fault.{Fault}
+use Rattle.results.specs.declared.Fault.the-variants.{TooLong, NotUtf8, Control, NoForce, NoPluck, NoRemark, Note, Force, Pluck}
+use Rattle.results.specs.declared.Cuts.the-variants.{At, Missing}
+use Rattle.results.specs.declared.Line.{Line}
+use Rattle.results.specs.declared.Line.the-variants.{Empty, Heading, Row, Bad}
+use Rattle.results.specs.declared.numbers.Amount.{Amount}
+use Rattle.results.specs.declared.numbers.Amount.the-variants.{Is, NoNumber}
+use Rattle.buffer.proofs.Reading.{index-within}
 use Rattle.row.specs.Fields.{field, right, fields}
 
 -- ---- characters

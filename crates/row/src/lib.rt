@@ -3,26 +3,26 @@
 ghost use mathlib.Core.Path.{_≡_};
 ghost use Prim.Native.Nat.{_≤_};
 ghost use lib.ListN.{length};
-ghost use Rattle.pallets.specs.Pallets.{parsed};
-ghost use Rattle.pallets.specs.declared.Line.the-variants.{Row};
-ghost use Rattle.words.specs.Bytes.{Adds};
+ghost use Rattle.results.specs.Pallets.{parsed};
+ghost use Rattle.results.specs.declared.Line.the-variants.{Row};
+ghost use Rattle.buffer.specs.Placing.{Adds};
 ghost use Rattle.words.specs.Build.{Shares, Gives};
 ghost use Rattle.row.specs.Fields.{right, fields};
 ghost use Rattle.row.specs.Documents.{rowDoc};
+use buffer::parts::behind;
+use buffer::parts::columns;
+use buffer::parts::front;
+use buffer::parts::further;
+use buffer::parts::missing;
+use buffer::parts::part_end;
+use buffer::parts::put;
 use build::Counts;
 use build::Made;
-use pallets::Pallet;
-use pallets::bytes::columns;
-use pallets::bytes::front;
-use pallets::bytes::part_end;
 use remark::ended;
-use tolerance::label;
+use results::Pallet;
+use results::tolerance::label;
 use words::Shared;
-use words::texts::behind;
-use words::texts::further;
 use words::texts::leaf;
-use words::texts::missing;
-use words::texts::put;
 
 // The columns of a row's fields: the note from the left, force and pluck point to the right.
 const NOTE: usize = 6;

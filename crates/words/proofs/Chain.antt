@@ -19,7 +19,7 @@ use Rattle.build.specs.declared.Made.the-variants.{Node, Refused}
 use Rattle.build.specs.Outcome.{Outcome, outcome}
 use Rattle.build.specs.Constructors.{nilMade, hardlineMade, lineMade, groupMade, textMade, appendMade, nestMade, annotateMade, unionMade, concatMade}
 use Rattle.build.specs.Documents.{lineDoc, groupDoc, textDoc, appendDoc, nestDoc, concatDoc}
-use Rattle.pallets.specs.Lines.{characters}
+use Rattle.buffer.specs.Parts.{characters}
 use Rattle.build.specs.Promise.{ValidSoFar, Builds, Promise}
 use Rattle.build.proofs.Promises.{nil-promise, hardline-promise, line-promise, group-promise, text-promise, append-promise, nest-promise, annotate-promise, union-promise, concat-promise}
 use Rattle.words.specs.declared.Shared.{Shared}

@@ -2,7 +2,7 @@
 ghost use mathlib.Core.Path.{_≡_};
 ghost use Prim.Native.Nat.{_+_, _-_, _≤_};
 ghost use lib.ListN.{length, drop, replicate};
-ghost use Rattle.words.specs.Bytes.{Placed, Adds};
+ghost use Rattle.buffer.specs.Placing.{Placed, Adds};
 ghost use Rattle.words.specs.Documents.{leafDoc};
 ghost use Rattle.words.specs.Build.{Gives};
 use buffer::copy_bytes;
@@ -15,7 +15,7 @@ use table::Column;
 pub fn leaf(c: Counts, table: &mut [u32], text: &mut [u8], bytes: &[u8]) -> Made
     ensures { λ r. ⌜ (Gives c (now (table .entry)) (now (text .entry)) r (now (table .exit)) (now (text .exit)) (leafDoc (now (bytes .entry)))) ⌝ }
 {
-    let wide = pallets::bytes::columns(bytes);
+    let wide = buffer::parts::columns(bytes);
     if 65536 < wide {
         return Made::Refused(Why::Bytes);
     }

@@ -7,10 +7,10 @@ use mathlib.Core.List.{map}
 use lib.ListN.{length, drop}
 use Rattle.table.specs.Document.{nil}
 use Rattle.build.specs.Documents.{intersperseDoc}
-use Rattle.pallets.specs.Lines.{lines}
-use Rattle.pallets.specs.Pallets.{between}
-use Rattle.tolerance.specs.Standing.{outNotes}
-use Rattle.tolerance.proofs.Walking.{first-of}
+use Rattle.buffer.specs.Parts.{lines}
+use Rattle.buffer.specs.Parts.{between}
+use Rattle.results.specs.Standing.{outNotes}
+use Rattle.results.proofs.Walking.{first-of}
 use Rattle.words.specs.Documents.{leafDoc}
 use Rattle.footer.specs.Documents.{commaDoc}
 use Rattle.words.specs.Build.{Is}
@@ -50,36 +50,36 @@ same-length-2 c = c .before .before .before .before .loop .inv .1
 
 returns : tie.Need-returns Inv-loop μ-loop
 returns c =
-    let at2 = c .before .before in
-    let at4 = at2 .before .before in
-    let start = at4 .before .before .before .before in
-    λ i j. all-added (at4 .loop .inv .2 i j) (no-more (start .args .input .now) (at4 .loop .at) (c .enum-told .given .1) (at2 .next-out .ensures .1))
+    let after-next-out = c .before .before in
+    let turn = after-next-out .before .before in
+    let start = turn .before .before .before .before in
+    λ i j. all-added (turn .loop .inv .2 i j) (no-more (start .args .input .now) (turn .loop .at) (c .enum-told .given .1) (after-next-out .next-out .ensures .1))
 
 sub-add-word : tie.Need-sub-add-word Inv-loop μ-loop
 sub-add-word c =
-    let at3 = c .before .before .before in
-    let at5 = at3 .before .before in
-    let at7 = at5 .before .before in
-    let start = at7 .before .before .before .before in
-    let f = first-of (start .args .input .now) (at7 .loop .at) (at3 .next .given .1) (at5 .next-out .ensures .1) in
+    let after-next = c .before .before .before in
+    let after-next-out = after-next .before .before in
+    let turn = after-next-out .before .before in
+    let start = turn .before .before .before .before in
+    let f = first-of (start .args .input .now) (turn .loop .at) (after-next .next .given .1) (after-next-out .next-out .ensures .1) in
     omega (arith, f .note)
 
 part-add-word-start : tie.Need-part-add-word-start Inv-loop μ-loop
 part-add-word-start c =
-    let at3 = c .before .before .before in
-    let at5 = at3 .before .before in
-    let at7 = at5 .before .before in
-    let start = at7 .before .before .before .before in
-    let f = first-of (start .args .input .now) (at7 .loop .at) (at3 .next .given .1) (at5 .next-out .ensures .1) in
+    let after-next = c .before .before .before in
+    let after-next-out = after-next .before .before in
+    let turn = after-next-out .before .before in
+    let start = turn .before .before .before .before in
+    let f = first-of (start .args .input .now) (turn .loop .at) (after-next .next .given .1) (after-next-out .next-out .ensures .1) in
     omega (arith, f .note)
 
 part-add-word-end : tie.Need-part-add-word-end Inv-loop μ-loop
 part-add-word-end c =
-    let at3 = c .before .before .before in
-    let at5 = at3 .before .before in
-    let at7 = at5 .before .before in
-    let start = at7 .before .before .before .before in
-    let f = first-of (start .args .input .now) (at7 .loop .at) (at3 .next .given .1) (at5 .next-out .ensures .1) in
+    let after-next = c .before .before .before in
+    let after-next-out = after-next .before .before in
+    let turn = after-next-out .before .before in
+    let start = turn .before .before .before .before in
+    let f = first-of (start .args .input .now) (turn .loop .at) (after-next .next .given .1) (after-next-out .next-out .ensures .1) in
     omega (arith, f .line, f .inside)
 
 add-word-requires : tie.Need-add-word-requires Inv-loop μ-loop
@@ -93,46 +93,44 @@ enum-told-2 c = search needs
 
 same-length-3 : tie.Need-same-length-3 Inv-loop μ-loop
 same-length-3 c =
-    let at6 = c .before .before .before .before .before .before in
-    let at15 = at6 .before .before .before .before .before .before .before .before .before in
-    at6 .add-word .kept .1 .0 ∙ at15 .loop .inv .0
+    let after-add-word = c .before .before .before .before .before .before in
+    after-add-word .add-word .kept .1 .0 ∙ after-add-word .before .before .before .before .before .before .before .before .before .loop .inv .0
 
 same-length-4 : tie.Need-same-length-4 Inv-loop μ-loop
 same-length-4 c =
-    let at6 = c .before .before .before .before .before .before in
-    let at15 = at6 .before .before .before .before .before .before .before .before .before in
-    at6 .add-word .kept .1 .1 .0 ∙ at15 .loop .inv .1
+    let after-add-word = c .before .before .before .before .before .before in
+    after-add-word .add-word .kept .1 .1 .0 ∙ after-add-word .before .before .before .before .before .before .before .before .before .loop .inv .1
 
 returns-2 : tie.Need-returns-2 Inv-loop μ-loop
 returns-2 c = λ i j. refused (c .enum-told2 .given .1)
 
 add-at : tie.Need-add-at Inv-loop μ-loop
 add-at c =
-    let at12 = c .before .before .before .before .before .before .before .before .before .before .before .before in
-    let at14 = at12 .before .before in
-    let at16 = at14 .before .before in
-    let start = at16 .before .before .before .before in
-    let f = first-of (start .args .input .now) (at16 .loop .at) (at12 .next .given .1) (at14 .next-out .ensures .1) in
+    let after-next = c .before .before .before .before .before .before .before .before .before .before .before .before in
+    let after-next-out = after-next .before .before in
+    let turn = after-next-out .before .before in
+    let start = turn .before .before .before .before in
+    let f = first-of (start .args .input .now) (turn .loop .at) (after-next .next .given .1) (after-next-out .next-out .ensures .1) in
     omega (arith, f .inside, start .good .1 .1 .1 .1 .1 .0)
 
 loop-less : tie.Need-loop-less Inv-loop μ-loop
 loop-less c =
-    let at12 = c .before .before .before .before .before .before .before .before .before .before .before .before in
-    let at14 = at12 .before .before in
-    let at16 = at14 .before .before in
-    let start = at16 .before .before .before .before in
-    let f = first-of (start .args .input .now) (at16 .loop .at) (at12 .next .given .1) (at14 .next-out .ensures .1) in
+    let after-next = c .before .before .before .before .before .before .before .before .before .before .before .before in
+    let after-next-out = after-next .before .before in
+    let turn = after-next-out .before .before in
+    let start = turn .before .before .before .before in
+    let f = first-of (start .args .input .now) (turn .loop .at) (after-next .next .given .1) (after-next-out .next-out .ensures .1) in
     omega (arith, f .ahead, f .note, f .line)
 
 loop-again : tie.Need-loop-again Inv-loop μ-loop
 loop-again c =
-    let at7 = c .before .before .before .before .before .before .before in
-    let at12 = at7 .before .before .before .before .before in
-    let at14 = at12 .before .before in
-    let at16 = at14 .before .before in
-    let start = at16 .before .before .before .before in
-    let f = first-of (start .args .input .now) (at16 .loop .at) (at12 .next .given .1) (at14 .next-out .ensures .1) in
-    (search needs, search needs, λ i j. one-added (at16 .loop .inv .2 i j) _ _ (f .names) (at7 .add-word .ensures) (c .before .made .given .1) j)
+    let after-add-word = c .before .before .before .before .before .before .before in
+    let after-next = after-add-word .before .before .before .before .before in
+    let after-next-out = after-next .before .before in
+    let turn = after-next-out .before .before in
+    let start = turn .before .before .before .before in
+    let f = first-of (start .args .input .now) (turn .loop .at) (after-next .next .given .1) (after-next-out .next-out .ensures .1) in
+    (search needs, search needs, λ i j. one-added (turn .loop .inv .2 i j) _ _ (f .names) (after-add-word .add-word .ensures) (c .before .made .given .1) j)
 
 same-length-5 : tie.Need-same-length-5 Inv-loop μ-loop
 same-length-5 c = c .before .loop .inv .0

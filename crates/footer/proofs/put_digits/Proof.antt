@@ -37,8 +37,7 @@ same-length c = simp length-set (omega arith)
 
 returns : tie.Need-returns Inv-loop μ-loop
 returns c =
-    let at2 = c .before .before in
-    let L = at2 .loop in
+    let L = c .before .before .loop in
     digit-here (L .out) (L .at) (48 + L .n % 10) (omega arith) (omega arith) ∙ sym (digit-last (L .at) (L .n) (drop (L .at) (L .out)) (omega arith) (c .if1 .taken)) ∙ L .inv .2
 
 loop-less : tie.Need-loop-less Inv-loop μ-loop
@@ -46,8 +45,7 @@ loop-less c = omega arith
 
 loop-again : tie.Need-loop-again Inv-loop μ-loop
 loop-again c =
-    let at2 = c .before .before in
-    let L = at2 .loop in
+    let L = c .before .before .loop in
     (simp length-set (omega arith), simp length-set (omega arith), ap (digitsOn (L .at - 1) (L .n / 10)) (digit-here (L .out) (L .at) (48 + L .n % 10) (omega arith) (omega arith)) ∙ sym (digit-more (L .at) (L .n) (drop (L .at) (L .out)) (omega arith) (c .if1 .left)) ∙ L .inv .2)
 
 same-length-2 : tie.Need-same-length-2 Inv-loop μ-loop

@@ -1,7 +1,7 @@
 -- `footer::said` meets its contract. Assumes nothing.
 use mathlib.Core.Path.{refl}
-use Rattle.pallets.specs.Lines.{lines}
-use Rattle.tolerance.specs.Standing.{outNotes}
+use Rattle.buffer.specs.Parts.{lines}
+use Rattle.results.specs.Standing.{outNotes}
 use Rattle.words.proofs.Chain.{gives}
 use Rattle.footer.proofs.Footing.{told-none, told-some}
 use Rattle.footer.proofs.said.Statement.{statement}
@@ -18,10 +18,10 @@ same-length-2 c = c .before .before .before .before .all-within .kept .1 .1 .0
 
 returns : tie.Need-returns
 returns c =
-    let at4 = c .before .before .before .before in
-    let at7 = at4 .before .before .before in
-    let start = at7 .before .before .before .before in
-    λ s. let a = start .args in gives refl (told-none (a .rows) (outNotes (lines (a .input .now))) (a .out) (start .pre) (at7 .if1 .taken)) (at4 .all-within .ensures)
+    let after-all-within = c .before .before .before .before in
+    let after-if1 = after-all-within .before .before .before in
+    let start = after-if1 .before .before .before .before in
+    λ s. let a = start .args in gives refl (told-none (a .rows) (outNotes (lines (a .input .now))) (a .out) (start .pre) (after-if1 .if1 .taken)) (after-all-within .all-within .ensures)
 
 named-requires : tie.Need-named-requires
 named-requires c κs = tt
@@ -34,10 +34,10 @@ same-length-4 c = c .before .before .before .before .named .kept .1 .1 .0
 
 returns-2 : tie.Need-returns-2
 returns-2 c =
-    let at4 = c .before .before .before .before in
-    let at7 = at4 .before .before .before in
-    let start = at7 .before .before .before .before in
-    λ s. let a = start .args in gives refl (told-some (a .rows) (outNotes (lines (a .input .now))) (a .out) (start .pre) (at7 .if1 .left)) (at4 .named .ensures s)
+    let after-named = c .before .before .before .before in
+    let after-if1 = after-named .before .before .before in
+    let start = after-if1 .before .before .before .before in
+    λ s. let a = start .args in gives refl (told-some (a .rows) (outNotes (lines (a .input .now))) (a .out) (start .pre) (after-if1 .if1 .left)) (after-named .named .ensures s)
 
 pub said-spec : {M : Type 1} → statement M
 said-spec =

@@ -1,6 +1,6 @@
 -- `row::put_field` meets its contract. Assumes nothing.
 use borrow.Author.Needs.{needs}
-use Rattle.words.proofs.Placing.{placed-length}
+use Rattle.buffer.proofs.Placing.{placed-length}
 use Rattle.row.proofs.Columns.{field-adds}
 use Rattle.row.proofs.put_field.Statement.{statement}
 use Rattle.row.proofs.put_field.Tie as tie
@@ -28,13 +28,13 @@ same-length c = search needs
 
 returns : tie.Need-returns
 returns c =
-    let at2 = c .before .before in
-    let at6 = at2 .before .before .before .before in
-    let at7 = at6 .before in
-    let at9 = at7 .before .before in
-    let at11 = at9 .before .before in
-    let at12 = at11 .before in
-    let start = at12 .before .before .before .before in
+    let after-put2 = c .before .before in
+    let after-put = after-put2 .before .before .before .before in
+    let after-front = after-put .before in
+    let after-further = after-front .before .before in
+    let after-missing = after-further .before .before in
+    let after-part-end = after-missing .before in
+    let start = after-part-end .before .before .before .before in
     let a = start .args in
     field-adds
     (a .out .now)
@@ -42,16 +42,16 @@ returns c =
     (a .s .now)
     (a .width)
     (a .unit .now)
-    (at12 .part-end .result)
-    (at12 .part-end .ensures)
-    (at11 .missing .result)
-    (at11 .missing .ensures)
-    (at9 .further .result)
-    (at9 .further .ensures)
+    (after-part-end .part-end .result)
+    (after-part-end .part-end .ensures)
+    (after-missing .missing .result)
+    (after-missing .missing .ensures)
+    (after-further .further .result)
+    (after-further .further .ensures)
     _
-    (at7 .front .ensures)
-    (at6 .put .ensures)
-    (at2 .put2 .ensures)
+    (after-front .front .ensures)
+    (after-put .put .ensures)
+    (after-put2 .put2 .ensures)
 
 pub put-field-spec : {M : Type 1} → statement M
 put-field-spec =

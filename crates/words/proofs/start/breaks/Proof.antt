@@ -34,9 +34,8 @@ enum-told-2 c = search needs
 
 same-length-3 : tie.Need-same-length-3
 same-length-3 c =
-    let at4 = c .before .before .before .before in
-    let at14 = at4 .before .before .before .before .before .before .before .before .before .before in
-    at4 .group .kept .1 .0 ∙ at14 .line .kept .1 .0
+    let after-group = c .before .before .before .before in
+    after-group .group .kept .1 .0 ∙ after-group .before .before .before .before .before .before .before .before .before .before .line .kept .1 .0
 
 same-length-4 : tie.Need-same-length-4
 same-length-4 c = c .before .before .before .before .before .before .before .before .before .before .before .before .before .before .line .kept .1 .1 .0
@@ -46,19 +45,17 @@ returns-2 c = search needs
 
 same-length-5 : tie.Need-same-length-5
 same-length-5 c =
-    let at5 = c .before .before .before .before .before in
-    let at15 = at5 .before .before .before .before .before .before .before .before .before .before in
-    at5 .group .kept .1 .0 ∙ at15 .line .kept .1 .0
+    let after-group = c .before .before .before .before .before in
+    after-group .group .kept .1 .0 ∙ after-group .before .before .before .before .before .before .before .before .before .before .line .kept .1 .0
 
 same-length-6 : tie.Need-same-length-6
 same-length-6 c = c .before .before .before .before .before .before .before .before .before .before .before .before .before .before .before .line .kept .1 .1 .0
 
 returns-3 : tie.Need-returns-3
 returns-3 c =
-    let at5 = c .before .before .before .before .before in
-    let at9 = at5 .before .before .before .before in
-    let at15 = at9 .before .before .before .before .before .before in
-    λ v i j. let b = lines (at15 .line .ensures) _ _ (at9 .c .given .1) v in let q = groups (new b) (at5 .group .ensures) _ _ (c .before .c2 .given .1) (b .valid) in (q .valid, record { none = kept q (kept b i); hardline = kept q (kept b j); line = kept q (new b); softline = new q })
+    let after-group = c .before .before .before .before .before in
+    let after-c = after-group .before .before .before .before in
+    λ v i j. let b = lines (after-c .before .before .before .before .before .before .line .ensures) _ _ (after-c .c .given .1) v in let q = groups (new b) (after-group .group .ensures) _ _ (c .before .c2 .given .1) (b .valid) in (q .valid, record { none = kept q (kept b i); hardline = kept q (kept b j); line = kept q (new b); softline = new q })
 
 pub breaks-spec : {M : Type 1} → statement M
 breaks-spec =

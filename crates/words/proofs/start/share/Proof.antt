@@ -34,9 +34,8 @@ enum-told-2 c = search needs
 
 same-length-3 : tie.Need-same-length-3
 same-length-3 c =
-    let at4 = c .before .before .before .before in
-    let at12 = at4 .before .before .before .before .before .before .before .before in
-    at4 .hardline .kept .1 .0 ∙ at12 .nil .kept .1 .0
+    let after-hardline = c .before .before .before .before in
+    after-hardline .hardline .kept .1 .0 ∙ after-hardline .before .before .before .before .before .before .before .before .nil .kept .1 .0
 
 same-length-4 : tie.Need-same-length-4
 same-length-4 c = refl
@@ -49,26 +48,25 @@ breaks-requires c κs = tt
 
 same-length-5 : tie.Need-same-length-5
 same-length-5 c =
-    let at4 = c .before .before .before .before in
-    let at12 = at4 .before .before .before .before .before .before .before .before in
-    let at20 = at12 .before .before .before .before .before .before .before .before in
-    at4 .breaks .kept .1 .0 ∙ at12 .hardline .kept .1 .0 ∙ at20 .nil .kept .1 .0
+    let after-breaks = c .before .before .before .before in
+    let after-hardline = after-breaks .before .before .before .before .before .before .before .before in
+    after-breaks .breaks .kept .1 .0 ∙ after-hardline .hardline .kept .1 .0 ∙ after-hardline .before .before .before .before .before .before .before .before .nil .kept .1 .0
 
 same-length-6 : tie.Need-same-length-6
 same-length-6 c = c .before .before .before .before .breaks .kept .1 .1 .0
 
 returns-3 : tie.Need-returns-3
 returns-3 c =
-    let at4 = c .before .before .before .before in
-    let at8 = at4 .before .before .before .before in
-    let at12 = at8 .before .before .before .before in
-    let at16 = at12 .before .before .before .before in
-    let at20 = at16 .before .before .before .before in
-    let start = at20 .before .before .before .before .before in
+    let after-breaks = c .before .before .before .before in
+    let after-c2 = after-breaks .before .before .before .before in
+    let after-hardline = after-c2 .before .before .before .before in
+    let after-c = after-hardline .before .before .before .before in
+    let after-nil = after-c .before .before .before .before in
+    let start = after-nil .before .before .before .before .before in
     let a = start .args in
-    let b = nils (at20 .nil .ensures) _ _ (at16 .c .given .1) (empty-valid (a .table .now) (a .text .now)) in
-    let q = feeds (at12 .hardline .ensures) _ _ (at8 .c2 .given .1) (b .valid) in
-    at4 .breaks .ensures (q .valid) (kept q (new b)) (new q)
+    let b = nils (after-nil .nil .ensures) _ _ (after-c .c .given .1) (empty-valid (a .table .now) (a .text .now)) in
+    let q = feeds (after-hardline .hardline .ensures) _ _ (after-c2 .c2 .given .1) (b .valid) in
+    after-breaks .breaks .ensures (q .valid) (kept q (new b)) (new q)
 
 pub share-spec : {M : Type 1} → statement M
 share-spec =

@@ -25,10 +25,10 @@ same-length-2 c = c .before .before .before .before .text .kept .1 .1 .0
 
 returns-2 : tie.Need-returns-2
 returns-2 c =
-    let at4 = c .before .before .before .before in
-    let at8 = at4 .before .before .before .before in
-    let start = at8 .before .before .before .before in
-    writes (start .args .bytes .now) (at8 .columns .result) (at8 .columns .ensures) (at4 .text .ensures)
+    let after-text = c .before .before .before .before in
+    let after-columns = after-text .before .before .before .before in
+    let start = after-columns .before .before .before .before in
+    writes (start .args .bytes .now) (after-columns .columns .result) (after-columns .columns .ensures) (after-text .text .ensures)
 
 pub leaf-spec : {M : Type 1} → statement M
 leaf-spec =

@@ -1,0 +1,88 @@
+-- The laws of the whole sheet: its lines one after the other, over the shared nodes.
+--     lines-next, count-next, no-lines     the line at a place, and those after it
+--     Lined, none-lined, one-lined, all-lined     the lines so far, with those to come
+--     begun, joined            what a caller has of an answer
+-- Assumes nothing.
+use Prim.Native.Nat.{ℕ, _+_, _-_, _≤_, _<_}
+use native.Mathlib.Omega.{arith}
+use mathlib.Core.Path.{_≡_, refl, sym, ap, _∙_, subst}
+use mathlib.Core.List.{List, [], _∷_, map}
+use lib.ListN.{length, take, drop}
+use Rattle.table.specs.Document.{Doc, nil}
+use Rattle.table.specs.declared.NodeNo.{NodeNo}
+use Rattle.build.specs.declared.Counts.{Counts}
+use Rattle.build.specs.declared.Made.{Made}
+use Rattle.build.specs.declared.Made.the-variants.{Node}
+use Rattle.build.specs.Documents.{appendDoc, joinedDoc, concatDoc}
+use Rattle.build.specs.Promise.{ValidSoFar}
+use Rattle.buffer.specs.Parts.{indexOf, lines}
+use Rattle.buffer.proofs.Reading.{done, line-first}
+use Rattle.words.specs.declared.Shared.{Shared}
+use Rattle.words.specs.declared.start.Start.{Start}
+use Rattle.words.specs.declared.start.Start.the-variants as start
+use Rattle.chest.specs.declared.Lines.{Lines}
+use Rattle.chest.specs.declared.Lines.the-variants as all
+use Rattle.chest.specs.Documents.{partDoc, linesDoc}
+use Rattle.words.specs.Build.{Is, Shares, Gives, Started}
+use Rattle.chest.specs.Build.{Joined}
+use Rattle.words.proofs.Chain.{new, shares-kept}
+
+-- ---- lines
+
+-- the line at a place, and those after it
+module _ (s : List ℕ) (at end : ℕ) (e : end ≡ at + indexOf 10 (drop at s)) (h : at < length s) where
+  pub lines-next : lines (drop at s) ≡ take (end - at) (drop at s) ∷ lines (drop (end + 1) s)
+  lines-next =
+      let size : end - at ≡ indexOf 10 (drop at s) = omega arith in
+      rw (size, e) (line-first s at h)
+
+  pub count-next : length (lines (drop at s)) ≡ length (lines (drop (end + 1) s)) + 1
+  count-next = ap length lines-next ∙ omega arith
+
+pub no-lines : (s : List ℕ) (at : ℕ) → length s ≤ at → lines (drop at s) ≡ []
+unfolding lines
+no-lines s at h = rw (done s at h)
+
+joined-nil : (ds : List Doc) → joinedDoc nil ds ≡ concatDoc ds
+unfolding joinedDoc concatDoc appendDoc
+joined-nil [] = refl
+joined-nil (d ∷ ds) = refl
+
+-- a valid table with its shared nodes, and the lines up to a place, which with those to come are all
+pub record Lined (shared : Shared) (input : List ℕ) (at : ℕ) (c : Counts) (t x : List ℕ) (n : NodeNo) : Type 0 where
+  pub valid : ValidSoFar c t x
+  pub shares : Shares c t x shared
+  pub said : Doc
+  pub is : Is c t x n said
+  pub rest : joinedDoc said (map partDoc (lines (drop at input))) ≡ linesDoc input
+
+pub none-lined : (input : List ℕ) (c : Counts) (t x : List ℕ) (shared : Shared) → ValidSoFar c t x → Shares c t x shared → Lined shared input 0 c t x (shared .none)
+unfolding linesDoc
+none-lined input c t x shared v s = record { valid = v; shares = s; said = nil; is = s .none; rest = joined-nil (map partDoc (lines input)) }
+
+module _ {shared : Shared} {input : List ℕ} {at : ℕ} {c : Counts} {t x : List ℕ} {n : NodeNo} (l : Lined shared input at c t x n) where
+  pub one-lined : (end : ℕ) → end ≡ at + indexOf 10 (drop at input) → at < length input → {r : Made} {t′ x′ : List ℕ} → ((d : Doc) → Shares c t x shared → Is c t x n d → Gives c t x r t′ x′ (appendDoc d (partDoc (take (end - at) (drop at input))))) → {c′ : Counts} {n′ : NodeNo} → r ≡ Node c′ n′ → Lined shared input (end + 1) c′ t′ x′ n′
+  unfolding joinedDoc
+  one-lined end e h adds {c′} {n′} is =
+      let b = adds (l .said) (l .shares) (l .is) c′ n′ is (l .valid) in
+      record {
+        valid = b .valid;
+        shares = shares-kept b (l .shares);
+        said = appendDoc (l .said) (partDoc (take (end - at) (drop at input)));
+        is = new b;
+        rest = sym (ap (λ (ls : List (List ℕ)). joinedDoc (l .said) (map partDoc ls)) (lines-next input at end e h)) ∙ l .rest;
+      }
+
+  pub all-lined : length input ≤ at → (line : ℕ) → line ≡ length (lines input) → Joined input shared (all.Added c n line) t x
+  unfolding joinedDoc
+  all-lined h line e =
+      let d = sym (ap (λ (ls : List (List ℕ)). joinedDoc (l .said) (map partDoc ls)) (no-lines input at h)) ∙ l .rest in
+      (l .valid, l .shares, subst (Is c t x n) d (l .is), e)
+
+-- ---- what a caller has of an answer
+
+pub begun : (table text : List ℕ) {r : Start} {c : Counts} {shared : Shared} → r ≡ start.Ready c shared → Started r table text → ValidSoFar c table text × Shares c table text shared
+begun table text is s = subst (λ (r : Start). Started r table text) is s
+
+pub joined : (input : List ℕ) (shared : Shared) (table text : List ℕ) {r r′ : Lines} → r ≡ r′ → Joined input shared r table text → Joined input shared r′ table text
+joined input shared table text is j = subst (λ (r : Lines). Joined input shared r table text) is j

@@ -1,0 +1,129 @@
+-- `chest::add_lines` meets its contract: the lines so far and those to come are all. Assumes nothing.
+use borrow.Author.Needs.{needs}
+use native.Mathlib.Omega.{arith}
+use Prim.Native.Nat.{_+_, _-_, _≤_}
+use mathlib.Core.Path.{_≡_, ap, _∙_}
+use lib.ListN.{length, drop}
+use Rattle.build.specs.Promise.{ValidSoFar}
+use Rattle.buffer.specs.Parts.{lines}
+use Rattle.buffer.proofs.Reading.{part-within}
+use Rattle.words.specs.Build.{Shares}
+use Rattle.chest.proofs.Sheets.{count-next, no-lines, Lined, none-lined, one-lined, all-lined}
+use Rattle.chest.proofs.add_lines.Statement.{statement}
+use Rattle.chest.proofs.add_lines.Tie as tie
+
+abbrev Inv-loop : tie.InvT-loop
+Inv-loop table₀ text₀ shared input c₀ n₀ line₀ at₀ table text c n line at =
+    (length table ≡ length table₀) × (length text ≡ length text₀) × (line ≤ at) × (line + length (lines (drop at input)) ≡ length (lines input)) × (ValidSoFar c₀ table₀ text₀ → Shares c₀ table₀ text₀ shared → Lined shared input at c table text n)
+
+abbrev μ-loop : tie.MeasureT-loop
+μ-loop table₀ text₀ shared input c₀ n₀ line₀ at₀ table text c n line at = length input - at
+
+loop-holds : tie.Need-loop-holds Inv-loop μ-loop
+loop-holds c =
+    let start = c .before .before .before .before in
+    let a = start .args in
+    (search needs, search needs, omega arith, omega arith, none-lined (a .input .now) (a .c) (a .table .now) (a .text .now) (a .shared))
+
+part-end-requires : tie.Need-part-end-requires Inv-loop μ-loop
+part-end-requires c κs = tt
+
+sub-added : tie.Need-sub-added Inv-loop μ-loop
+sub-added c = omega (arith, c .before .before .part-end .ensures)
+
+part-added-start : tie.Need-part-added-start Inv-loop μ-loop
+part-added-start c = omega (arith, c .before .before .part-end .ensures)
+
+part-added-end : tie.Need-part-added-end Inv-loop μ-loop
+part-added-end c =
+    let after-part-end = c .before .before in
+    let turn = after-part-end .before .before in
+    let start = turn .before .before .before .before .before in
+    omega (arith, part-within (start .args .input .now) (turn .loop .at) 10 (omega arith), after-part-end .part-end .ensures)
+
+added-requires : tie.Need-added-requires Inv-loop μ-loop
+added-requires c κs = tt
+
+add-line : tie.Need-add-line Inv-loop μ-loop
+add-line c = omega arith
+
+add-at : tie.Need-add-at Inv-loop μ-loop
+add-at c =
+    let after-part-end = c .before .before .before .before .before .before .before .before in
+    let turn = after-part-end .before .before in
+    let start = turn .before .before .before .before .before in
+    omega (arith, part-within (start .args .input .now) (turn .loop .at) 10 (omega arith), after-part-end .part-end .ensures)
+
+enum-known-made : tie.Need-enum-known-made Inv-loop μ-loop
+enum-known-made c = search needs
+
+same-length : tie.Need-same-length Inv-loop μ-loop
+same-length c =
+    let after-added = c .before .before .before .before .before .before .before in
+    after-added .added .kept .1 .0 ∙ after-added .before .before .before .before .before .before .loop .inv .0
+
+same-length-2 : tie.Need-same-length-2 Inv-loop μ-loop
+same-length-2 c =
+    let after-added = c .before .before .before .before .before .before .before in
+    after-added .added .kept .1 .1 .0 ∙ after-added .before .before .before .before .before .before .loop .inv .1
+
+returns : tie.Need-returns Inv-loop μ-loop
+returns c =
+    let after-part-end = c .before .before .before .before .before .before .before .before .before .before .before in
+    let turn = after-part-end .before .before in
+    let start = turn .before .before .before .before .before in
+    λ v s. omega (arith, count-next (start .args .input .now) (turn .loop .at) (after-part-end .part-end .result) (after-part-end .part-end .ensures) (omega arith), turn .loop .inv .3)
+
+enum-known-made-2 : tie.Need-enum-known-made-2 Inv-loop μ-loop
+enum-known-made-2 c = search needs
+
+loop-less : tie.Need-loop-less Inv-loop μ-loop
+loop-less c = omega (arith, c .before .before .before .before .before .before .before .before .before .before .before .part-end .ensures)
+
+loop-again : tie.Need-loop-again Inv-loop μ-loop
+loop-again c =
+    let after-added = c .before .before .before .before .before .before .before in
+    let after-part-end = after-added .before .before .before .before in
+    let turn = after-part-end .before .before in
+    let start = turn .before .before .before .before .before in
+    let L = turn .loop in
+    let part-end-result = after-part-end .part-end .result in
+    let part-end-ensures = after-part-end .part-end .ensures in
+    (search needs, search needs, omega (arith, after-part-end .part-end .ensures, L .inv .2), omega (arith, count-next (start .args .input .now) (L .at) part-end-result part-end-ensures (omega arith), L .inv .3), λ v s. one-lined (L .inv .4 v s) part-end-result part-end-ensures (omega arith) (after-added .added .ensures) (c .before .made2 .given .1))
+
+same-length-3 : tie.Need-same-length-3 Inv-loop μ-loop
+same-length-3 c = c .before .loop .inv .0
+
+same-length-4 : tie.Need-same-length-4 Inv-loop μ-loop
+same-length-4 c = c .before .loop .inv .1
+
+returns-2 : tie.Need-returns-2 Inv-loop μ-loop
+returns-2 c =
+    let start = c .before .before .before .before .before .before in
+    let L = c .before .loop in
+    λ v s. all-lined (L .inv .4 v s) (omega arith) (L .line) (omega (arith, ap length (no-lines (start .args .input .now) (L .at) (omega arith)), L .inv .3))
+
+pub add-lines-spec : {M : Type 1} → statement M
+add-lines-spec =
+    tie.close
+    (tie.spec
+    Inv-loop
+    μ-loop
+    loop-holds
+    part-end-requires
+    sub-added
+    part-added-start
+    part-added-end
+    added-requires
+    add-line
+    add-at
+    enum-known-made
+    same-length
+    same-length-2
+    returns
+    enum-known-made-2
+    loop-less
+    loop-again
+    same-length-3
+    same-length-4
+    returns-2)

@@ -1,0 +1,59 @@
+-- `chest::build` meets its contract. Assumes nothing.
+use mathlib.Core.Path.{_∙_}
+use borrow.Author.Needs.{needs}
+use Rattle.chest.proofs.Sheets.{begun}
+use Rattle.chest.proofs.build.Statement.{statement}
+use Rattle.chest.proofs.build.Tie as tie
+
+share-requires : tie.Need-share-requires
+share-requires c κs = tt
+
+enum-known-start : tie.Need-enum-known-start
+enum-known-start c = search needs
+
+enum-told : tie.Need-enum-told
+enum-told c = search needs
+
+same-length : tie.Need-same-length
+same-length c = c .before .before .before .before .before .before .share .kept .0
+
+same-length-2 : tie.Need-same-length-2
+same-length-2 c = c .before .before .before .before .before .before .share .kept .1 .0
+
+returns : tie.Need-returns
+returns c = search needs
+
+whole-requires : tie.Need-whole-requires
+whole-requires c κs = tt
+
+same-length-3 : tie.Need-same-length-3
+same-length-3 c =
+    let after-whole = c .before .before .before .before in
+    after-whole .whole .kept .1 .0 ∙ after-whole .before .before .before .before .before .before .before .before .before .before .share .kept .0
+
+same-length-4 : tie.Need-same-length-4
+same-length-4 c =
+    let after-whole = c .before .before .before .before in
+    after-whole .whole .kept .1 .1 .0 ∙ after-whole .before .before .before .before .before .before .before .before .before .before .share .kept .1 .0
+
+returns-2 : tie.Need-returns-2
+returns-2 c =
+    let after-whole = c .before .before .before .before in
+    let after-start = after-whole .before .before .before .before in
+    let s = begun _ _ (after-start .start .given .1) (after-start .before .before .before .before .before .before .share .ensures) in
+    after-whole .whole .ensures (s .0) (s .1)
+
+pub build-spec : {M : Type 1} → statement M
+build-spec =
+    tie.close
+    (tie.spec
+    share-requires
+    enum-known-start
+    enum-told
+    same-length
+    same-length-2
+    returns
+    whole-requires
+    same-length-3
+    same-length-4
+    returns-2)
