@@ -8,13 +8,12 @@ use Rattle.table.specs.Document.{Doc, append, nest, hardline, text, annotated, 
 use Rattle.buffer.specs.Utf8.{owed, wellFormed, ascii}
 use Rattle.build.specs.Documents.{appendDoc, groupDoc, nestDoc, textDoc, joinedDoc, concatDoc, separatedDoc, intersperseDoc}
 use Rattle.block.specs.Documents.{bareDoc, headDoc, tailDoc, coreDoc, wrapsDoc, alternativeDoc, unionsDoc, blockDoc}
-use Rattle.buffer.specs.Parts.{indexOf, lines, bodyEnd, characters, blank, controls}
+use Rattle.buffer.specs.Parts.{indexOf, lines, bodyEnd, characters, blank, controls, blanks, trimmed}
 use Rattle.results.specs.Numbers.{digits, numberOf, tenthsAdd, tenthsOf}
 use Rattle.results.specs.Tolerance.{labelOf}
 use Rattle.results.specs.Pallets.{cutsAt, fieldsOf, measured, palletOf, palletAt, said, parsed}
 use Rattle.results.specs.Standing.{standing, standingOf, rowCount, outNotes}
 use Rattle.row.specs.Fields.{right, fields}
-use Rattle.buffer.specs.Parts.{blanks, trimmed}
 use Rattle.words.specs.Words.{togetherOn, wordsOn}
 use Rattle.words.specs.Documents.{filledDoc}
 use Rattle.row.specs.Remark.{besideDoc, lowerDoc, belowDoc, endedDoc}

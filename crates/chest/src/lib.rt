@@ -40,7 +40,12 @@ pub enum Built {
 
 // A heading, filled.
 fn heading(c: Counts, table: &mut [u32], text: &mut [u8], shared: Shared, s: &[u8]) -> Made
-    ensures { λ r. ⌜ (Shares c (now (table .entry)) (now (text .entry)) shared → Gives c (now (table .entry)) (now (text .entry)) r (now (table .exit)) (now (text .exit)) (appendDoc (filledDoc 42 (now (s .entry))) document.hardline)) ⌝ }
+    ensures { λ r. ⌜
+        (Shares c (now (table .entry)) (now (text .entry)) shared
+        → Gives c (now (table .entry)) (now (text .entry))
+        r (now (table .exit)) (now (text .exit))
+        (appendDoc (filledDoc 42 (now (s .entry))) document.hardline))
+        ⌝ }
 {
     let hardline = shared.hardline;
     let made = filled(c, table, text, shared, s, WHOLE);
@@ -52,7 +57,12 @@ fn heading(c: Counts, table: &mut [u32], text: &mut [u8], shared: Shared, s: &[u
 
 // What a line adds to the sheet: a row, a heading, an empty line.
 fn part(c: Counts, table: &mut [u32], text: &mut [u8], shared: Shared, line: &[u8]) -> Made
-    ensures { λ r. ⌜ (Shares c (now (table .entry)) (now (text .entry)) shared → Gives c (now (table .entry)) (now (text .entry)) r (now (table .exit)) (now (text .exit)) (saysDoc (now (line .entry)) (parsed (now (line .entry))))) ⌝ }
+    ensures { λ r. ⌜
+        (Shares c (now (table .entry)) (now (text .entry)) shared
+        → Gives c (now (table .entry)) (now (text .entry))
+        r (now (table .exit)) (now (text .exit))
+        (saysDoc (now (line .entry)) (parsed (now (line .entry)))))
+        ⌝ }
 {
     let none = shared.none;
     let hardline = shared.hardline;
@@ -74,7 +84,14 @@ fn added(
     n: NodeNo,
     line: &[u8],
 ) -> Made
-    ensures { λ r. ⌜ ((d : Doc) → Shares c (now (table .entry)) (now (text .entry)) shared → Is c (now (table .entry)) (now (text .entry)) n d → Gives c (now (table .entry)) (now (text .entry)) r (now (table .exit)) (now (text .exit)) (appendDoc d (partDoc (now (line .entry))))) ⌝ }
+    ensures { λ r. ⌜
+        ((d : Doc)
+        → Shares c (now (table .entry)) (now (text .entry)) shared
+        → Is c (now (table .entry)) (now (text .entry)) n d
+        → Gives c (now (table .entry)) (now (text .entry))
+        r (now (table .exit)) (now (text .exit))
+        (appendDoc d (partDoc (now (line .entry)))))
+        ⌝ }
 {
     let body = buffer::parts::body_end(line);
     let made = part(c, table, text, shared, &line[..body]);
@@ -86,7 +103,11 @@ fn added(
 
 // Adds the lines of the input in order.
 fn add_lines(c: Counts, table: &mut [u32], text: &mut [u8], shared: Shared, input: &[u8]) -> Lines
-    ensures { λ r. ⌜ (ValidSoFar c (now (table .entry)) (now (text .entry)) → Shares c (now (table .entry)) (now (text .entry)) shared → Joined (now (input .entry)) shared r (now (table .exit)) (now (text .exit))) ⌝ }
+    ensures { λ r. ⌜
+        (ValidSoFar c (now (table .entry)) (now (text .entry))
+        → Shares c (now (table .entry)) (now (text .entry)) shared
+        → Joined (now (input .entry)) shared r (now (table .exit)) (now (text .exit)))
+        ⌝ }
 {
     let mut c = c;
     let mut n = shared.none;
@@ -119,7 +140,14 @@ fn footed(
     n: NodeNo,
     input: &[u8],
 ) -> Made
-    ensures { λ r. ⌜ ((d : Doc) → Shares c (now (table .entry)) (now (text .entry)) shared → Is c (now (table .entry)) (now (text .entry)) n d → Gives c (now (table .entry)) (now (text .entry)) r (now (table .exit)) (now (text .exit)) (appendDoc d (footerDoc (lines (now (input .entry)))))) ⌝ }
+    ensures { λ r. ⌜
+        ((d : Doc)
+        → Shares c (now (table .entry)) (now (text .entry)) shared
+        → Is c (now (table .entry)) (now (text .entry)) n d
+        → Gives c (now (table .entry)) (now (text .entry))
+        r (now (table .exit)) (now (text .exit))
+        (appendDoc d (footerDoc (lines (now (input .entry))))))
+        ⌝ }
 {
     let made = footer(c, table, text, shared, input);
     let Made::Node(c, last) = made else {
@@ -130,7 +158,11 @@ fn footed(
 
 // The lines of the input and the footer, over the shared nodes.
 fn whole(c: Counts, table: &mut [u32], text: &mut [u8], shared: Shared, input: &[u8]) -> Built
-    ensures { λ r. ⌜ (ValidSoFar c (now (table .entry)) (now (text .entry)) → Shares c (now (table .entry)) (now (text .entry)) shared → Shows (now (input .entry)) r (now (table .exit)) (now (text .exit))) ⌝ }
+    ensures { λ r. ⌜
+        (ValidSoFar c (now (table .entry)) (now (text .entry))
+        → Shares c (now (table .entry)) (now (text .entry)) shared
+        → Shows (now (input .entry)) r (now (table .exit)) (now (text .exit)))
+        ⌝ }
 {
     let lines = add_lines(c, table, text, shared, input);
     match lines {

@@ -57,7 +57,12 @@ fn further(base: u32, value: u32, d: u32) -> u32
 // The number whose first digit was `first` and whose others start at `from`.
 fn number(s: &[u8], from: usize, base: u32, first: u32) -> Item
     requires { ⌜ (from ≤ length (now s)) × (base ≤ 16) ⌝ }
-    ensures { λ r. ⌜ (r .value ≡ valueOf base first (drop from (now (s .entry)))) × (r .times ≡ 1) × (r .end ≡ from + digits base (drop from (now (s .entry)))) × (r .end ≤ length (now (s .entry))) ⌝ }
+    ensures { λ r. ⌜
+        (r .value ≡ valueOf base first (drop from (now (s .entry))))
+        × (r .times ≡ 1)
+        × (r .end ≡ from + digits base (drop from (now (s .entry))))
+        × (r .end ≤ length (now (s .entry)))
+        ⌝ }
 {
     let mut value = first;
     let mut at = from;
@@ -83,7 +88,11 @@ fn number(s: &[u8], from: usize, base: u32, first: u32) -> Item
 // A number with its `*count`, if it has one.
 fn repeated(s: &[u8], from: usize, base: u32, first: u32) -> Item
     requires { ⌜ (from ≤ length (now s)) × (base ≤ 16) ⌝ }
-    ensures { λ r. ⌜ (listed base (value first) (drop from (now (s .entry))) ≡ replicate (r .times) (r .value) ++ listed base between (drop (r .end) (now (s .entry)))) × (from ≤ r .end) × (r .end ≤ length (now (s .entry))) ⌝ }
+    ensures { λ r. ⌜
+        (listed base (value first) (drop from (now (s .entry))) ≡ replicate (r .times) (r .value) ++ listed base between (drop (r .end) (now (s .entry))))
+        × (from ≤ r .end)
+        × (r .end ≤ length (now (s .entry)))
+        ⌝ }
 {
     let one = number(s, from, base, first);
     let end = one.end;
@@ -103,7 +112,10 @@ fn repeated(s: &[u8], from: usize, base: u32, first: u32) -> Item
 // Stores v so many times from `count` on, as far as there is room, and gives the new count.
 fn store(out: &mut [u32], count: usize, times: usize, v: u32) -> usize
     requires { ⌜ count ≤ length (now out) ⌝ }
-    ensures { λ r. ⌜ (now (out .exit) ≡ stored (now (out .entry)) count (replicate times v)) × (r ≡ countAfter (now (out .entry)) count (replicate times v)) ⌝ }
+    ensures { λ r. ⌜
+        (now (out .exit) ≡ stored (now (out .entry)) count (replicate times v))
+        × (r ≡ countAfter (now (out .entry)) count (replicate times v))
+        ⌝ }
 {
     let room = out.len() - count;
     if room < times {
@@ -117,7 +129,10 @@ fn store(out: &mut [u32], count: usize, times: usize, v: u32) -> usize
 // Stores the numbers of a list, as far as there is room, and gives their count.
 fn store_list(s: &[u8], base: u32, out: &mut [u32]) -> usize
     requires { ⌜ base ≤ 16 ⌝ }
-    ensures { λ r. ⌜ (now (out .exit) ≡ stored (now (out .entry)) 0 (listed base between (now (s .entry)))) × (r ≡ countAfter (now (out .entry)) 0 (listed base between (now (s .entry)))) ⌝ }
+    ensures { λ r. ⌜
+        (now (out .exit) ≡ stored (now (out .entry)) 0 (listed base between (now (s .entry))))
+        × (r ≡ countAfter (now (out .entry)) 0 (listed base between (now (s .entry))))
+        ⌝ }
 {
     let mut count = 0;
     let mut at = 0;
@@ -136,7 +151,13 @@ fn store_list(s: &[u8], base: u32, out: &mut [u32]) -> usize
 // Stores the list of numbers that starts at `from` and ends at a `|` or with the line.
 pub fn numbers(line: &[u8], from: usize, base: u32, out: &mut [u32]) -> Stored
     requires { ⌜ (from ≤ length (now line)) × (base ≤ 16) ⌝ }
-    ensures { λ r. ⌜ (r .end ≡ from + indexOf 124 (drop from (now (line .entry)))) × (now (out .exit) ≡ stored (now (out .entry)) 0 (listed base between (take (r .end - from) (drop from (now (line .entry)))))) × (r .count ≡ countAfter (now (out .entry)) 0 (listed base between (take (r .end - from) (drop from (now (line .entry)))))) × (r .end ≤ length (now (line .entry))) × (r .count ≤ length (now (out .exit))) ⌝ }
+    ensures { λ r. ⌜
+        (r .end ≡ from + indexOf 124 (drop from (now (line .entry))))
+        × (now (out .exit) ≡ stored (now (out .entry)) 0 (listed base between (take (r .end - from) (drop from (now (line .entry))))))
+        × (r .count ≡ countAfter (now (out .entry)) 0 (listed base between (take (r .end - from) (drop from (now (line .entry))))))
+        × (r .end ≤ length (now (line .entry)))
+        × (r .count ≤ length (now (out .exit)))
+        ⌝ }
 {
     let end = part_end(line, from, b'|');
     let count = store_list(&line[from..end], base, out);
@@ -153,7 +174,9 @@ pub fn past(line: &[u8], end: usize) -> usize
 
 // The numbers as bytes, as far as there is room for them; the bytes behind them stay.
 pub fn narrow(wide: &[u32], bytes: &mut [u8])
-    ensures { λ _. ⌜ now (bytes .exit) ≡ put (now (bytes .entry)) 0 (take (length (now (bytes .entry))) (bytesOf (now (wide .entry)))) ⌝ }
+    ensures { λ _. ⌜
+        now (bytes .exit) ≡ put (now (bytes .entry)) 0 (take (length (now (bytes .entry))) (bytesOf (now (wide .entry))))
+        ⌝ }
 {
     let mut i = 0;
     while i < bytes.len() {

@@ -1,31 +1,24 @@
--- The laws of reading, over plain lists.
---     more, done                    what is left of a list: one more, or nothing
---     digit-.., digits-end, number-..   a number's bytes, and how large it gets
---     ..-counts, no-characters      the bytes of characters
---     control-.., no-controls       control characters
---     blank-.., all-blank           blanks
---     part-.., no-part              the first of a byte
---     line-first                    the first line, and those after it
+-- The laws of numbers as a line writes them, over plain lists.
+--     digit-.., digits-end          one digit more, and the end
+--     number-..                     one to four of them
+--     ten-.., number-small          how large a number gets
 -- Assumes nothing.
-use Prim.Native.Nat.{ℕ, zero, suc, _+_, _-_, _*_, _^_, _≤_, _<_}
+use Prim.Native.Nat.{ℕ, suc, _+_, _-_, _*_, _^_, _≤_, _<_}
 use native.Mathlib.Omega.{arith}
 use native.Mathlib.Numerals.{add-one}
-use native.Mathlib.Nat.{add-zero, add-suc, suc-add, pow-suc, pow-le-pow-right, not-suc-le-zero, le-of-suc-le-suc}
+use native.Mathlib.Nat.{add-zero, add-suc, suc-add, pow-suc, pow-le-pow-right}
 use mathlib.Core.Path.{_≡_, refl, sym, ap, _∙_}
 use mathlib.Core.Bool.{Bool, true, false, _&&_}
 use mathlib.Core.List.{List, [], _∷_}
-use lib.ListN.{length, getD, take, drop}
-use lib.Seq.{drop-cons, drop-drop}
-use lib.Dec.{eqb, leb}
-use borrow.Author.Tests.{leb-true, le-leb, lt-leb, lt-ltb, le-ltb, eq-eqb, ne-eqb}
+use lib.ListN.{length, getD, drop}
+use lib.Dec.{leb}
+use borrow.Author.Tests.{leb-true, le-leb, lt-leb}
 use Rattle.choice.specs.Pick.{pick}
 use Rattle.choice.proofs.Tests.{and-true}
+use Rattle.buffer.proofs.Reading.{more, done}
 use Rattle.results.specs.Numbers.{digit, digits, numberOf, Small}
-use Rattle.buffer.specs.Parts.{indexOf, before, lines, characters, blank, controls}
 use Rattle.results.specs.declared.numbers.Amount.{Amount}
 use Rattle.results.specs.declared.numbers.Amount.the-variants.{Is, NoNumber}
-
--- ---- numbers
 
 module _ (n : ℕ) (s : List ℕ) (i : ℕ) (h : i < length s) where
   pub digit-next : 48 ≤ getD s i 0 → getD s i 0 ≤ 57 → digits n (drop i s) ≡ digits (n * 10 + (getD s i 0 - 48)) (drop (i + 1) s)

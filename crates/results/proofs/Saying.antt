@@ -3,8 +3,7 @@
 --     no-force, no-pluck, no-remark, fields-are   where the separators stand
 --     no-note, long-note, pallet-is the note before force and pluck point
 --     said-is                       a line that is a pallet's
---     body-within, part-within      ends lie within
---     check-line, rest-none, none-left   one line of an input; none
+--     verdict-of, check-line, rest-none   one line of an input; none
 -- Assumes nothing.
 use Prim.Native.Nat.{ℕ, suc, _+_, _-_, _≤_, _<_}
 use native.Mathlib.Omega.{arith}
@@ -16,16 +15,17 @@ use lib.Seq.{take-all}
 use lib.Dec.{eqb, ltb}
 use borrow.Author.Tests.{le-leb, lt-leb, ne-eqb}
 use Rattle.choice.specs.Pick.{pick}
+use Rattle.buffer.specs.Parts.{between, indexOf, lines, LineEnds, bodyEnd, characters, blank}
+use Rattle.buffer.proofs.Reading.{done, line-first}
 use Rattle.results.specs.Numbers.{numberOf, tenthsAdd, tenthsOf}
-use Rattle.buffer.specs.Parts.{indexOf, lines, bodyEnd, characters, blank}
 use Rattle.results.specs.Pallets.{separator, cutsAt, fieldsOf, measured, palletOf, palletAt, said, parsed, verdictOf, firstOf, checked}
-use Rattle.buffer.specs.Parts.{between}
 use Rattle.results.specs.declared.numbers.Amount.the-variants.{NoNumber}
 use Rattle.results.specs.declared.Fault.the-variants.{NoForce, NoPluck, NoRemark, Note}
 use Rattle.results.specs.declared.Cuts.the-variants.{At, Missing}
 use Rattle.results.specs.declared.Line.the-variants.{Bad}
+use Rattle.results.specs.declared.Line.{Line}
+use Rattle.results.specs.declared.input.Verdict.{Verdict}
 use Rattle.results.specs.declared.input.Checked.the-variants.{AllSound}
-use Rattle.buffer.proofs.Reading.{done, line-first}
 
 -- ---- tenths
 
@@ -98,11 +98,22 @@ said-is s h k = rw (ne-eqb (length s) 0 h, ne-eqb (getD s 0 0) 35 k)
 
 -- ---- the first line at fault
 
-pub check-line : (s : List ℕ) (at n end : ℕ) → end ≡ at + indexOf 10 (drop at s) → at < length s → firstOf (n + 1) (verdictOf (parsed (take (bodyEnd (take (end - at) (drop at s))) (take (end - at) (drop at s))))) (checked (n + 1) (lines (drop (end + 1) s))) ≡ checked n (lines (drop at s))
-unfolding checked
-check-line s at n end e h =
-    let size : end - at ≡ indexOf 10 (drop at s) = omega arith in
-    rw (size, e, line-first s at h)
+-- of a line without the carriage return at its end
+abbrev pub verdictAt : List ℕ → Verdict
+verdictAt l = verdictOf (parsed (take (bodyEnd l) l))
+
+-- what a line says up to its end gives its verdict
+pub verdict-of : (s : List ℕ) (n : ℕ) → n ≡ bodyEnd s → {l l′ : Line} → l ≡ l′ → l ≡ parsed (take n s) → verdictOf l′ ≡ verdictAt s
+verdict-of s n e is says = rw (← is, says, e)
+
+module _ {s : List ℕ} {at end : ℕ} (l : LineEnds s at end) (h : at < length s) where
+  -- the line at a place is at fault, or the first fault is one of the lines after it
+  pub check-line : (n : ℕ) {v v′ : Verdict} → v ≡ v′ → v ≡ verdictAt (between s at end) → firstOf (n + 1) v′ (checked (n + 1) (lines (drop (end + 1) s))) ≡ checked n (lines (drop at s))
+  unfolding checked
+  check-line n is says =
+      let e = l .is in
+      let size : end - at ≡ indexOf 10 (drop at s) = omega arith in
+      rw (← is, says, size, e, line-first s at h)
 
 pub rest-none : (s : List ℕ) (n end : ℕ) → length s ≤ end → AllSound ≡ checked n (lines (drop end s))
 unfolding checked lines

@@ -5,7 +5,7 @@ use lib.ListN.{length, getD, take, drop}
 use lib.Dec.{eqb, leb, ltb}
 use Rattle.choice.specs.Pick.{pick}
 use Rattle.buffer.specs.Utf8.{wellFormed}
-use Rattle.buffer.specs.Parts.{indexOf, bodyEnd, characters, blank, controls}
+use Rattle.buffer.specs.Parts.{between, indexOf, bodyEnd, characters, blank, controls}
 use Rattle.results.specs.Numbers.{numberOf, tenthsOf}
 use Rattle.results.specs.declared.numbers.Amount.{Amount}
 use Rattle.results.specs.declared.numbers.Amount.the-variants.{Is, NoNumber}

@@ -5,8 +5,7 @@ use mathlib.Core.List.{List, [], _∷_}
 use lib.ListN.{length, take, drop}
 use lib.Dec.{eqb}
 use Rattle.choice.specs.Pick.{pick}
-use Rattle.buffer.specs.Parts.{indexOf, bodyEnd, lines}
-use Rattle.buffer.specs.Parts.{between}
+use Rattle.buffer.specs.Parts.{indexOf, bodyEnd, lines, between}
 use Rattle.results.specs.Pallets.{parsed}
 use Rattle.results.specs.Tolerance.{labelOf}
 use Rattle.results.specs.declared.Line.{Line}

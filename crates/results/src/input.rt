@@ -7,7 +7,7 @@ use crate::Fault;
 use crate::Line;
 use crate::parse;
 use buffer::parts::body_end;
-use buffer::parts::part_end;
+use buffer::parts::line_end;
 
 // Whether a line is wrong.
 enum Verdict {
@@ -42,7 +42,7 @@ pub fn check(input: &[u8]) -> Checked
     let mut before = 0;
     let mut at = 0;
     while at < input.len() {
-        let end = part_end(input, at, 10);
+        let end = line_end(input, at);
         let verdict = told(&input[at..end]);
         if let Verdict::Faulty(fault) = verdict {
             return Checked::FaultAt(before + 1, fault);

@@ -8,6 +8,7 @@ ghost use Rattle.results.specs.Standing.{standing, standingOf, rowCount,
 use crate::Line;
 use crate::parse;
 use buffer::parts::body_end;
+use buffer::parts::line_end;
 use buffer::parts::part_end;
 
 // Tolerances: force in grams, pluck point in tenths of a millimetre, both ends within.
@@ -92,7 +93,7 @@ pub fn count(input: &[u8]) -> Tally
     let mut out = 0;
     let mut at = 0;
     while at < input.len() {
-        let end = part_end(input, at, 10);
+        let end = line_end(input, at);
         let stands = line_stands(&input[at..end]);
         at = end + 1;
         match stands {
@@ -126,7 +127,7 @@ pub fn next_out(input: &[u8], from: usize) -> Next
     let mut at = from;
     while at < input.len() {
         let start = at;
-        let end = part_end(input, start, 10);
+        let end = line_end(input, start);
         let stands = line_stands(&input[start..end]);
         at = end + 1;
         match stands {

@@ -6,8 +6,8 @@ use lib.Dec.{eqb}
 use Rattle.choice.specs.Pick.{pick}
 use Rattle.table.specs.Document.{Doc, hardline, union}
 use Rattle.build.specs.Documents.{appendDoc, nestDoc, concatDoc}
-use Rattle.buffer.specs.Parts.{between}
-use Rattle.buffer.specs.Parts.{skipped, trimmed}
+use Rattle.buffer.specs.Parts.{between, skipped, trimmed}
+use Rattle.words.specs.Widths.{below, wrapped}
 use Rattle.words.specs.Documents.{leafDoc, filledDoc}
 
 -- what stands from a place on, without the blanks around it
@@ -18,9 +18,9 @@ remark s from = between s (skipped s from) (trimmed s)
 unfoldable pub besideDoc : Doc → List ℕ → Doc
 besideDoc row says = concatDoc (row ∷ leafDoc (32 ∷ 32 ∷ says) ∷ hardline ∷ [])
 
--- the remark filled on lines of its own, four columns in
+-- the remark filled on lines of its own, indented
 unfoldable pub lowerDoc : List ℕ → Doc
-lowerDoc says = nestDoc (appendDoc hardline (filledDoc 38 says)) 4 0
+lowerDoc says = nestDoc (appendDoc hardline (filledDoc wrapped says)) below 0
 
 -- the remark below the row
 unfoldable pub belowDoc : Doc → List ℕ → Doc

@@ -19,7 +19,7 @@ use words::BELOW;
 use words::Shared;
 use words::WRAPPED;
 use words::filled;
-use words::texts::leaf;
+use words::leaf;
 
 // The remark beside the row, and a Hardline.
 fn beside(
@@ -31,7 +31,14 @@ fn beside(
     says: &[u8],
 ) -> Made
     requires { ⌜ length (now says) ≤ 200 ⌝ }
-    ensures { λ r. ⌜ ((d : Doc) → Shares c (now (table .entry)) (now (text .entry)) shared → Is c (now (table .entry)) (now (text .entry)) fixed d → Gives c (now (table .entry)) (now (text .entry)) r (now (table .exit)) (now (text .exit)) (besideDoc d (now (says .entry)))) ⌝ }
+    ensures { λ r. ⌜
+        ((d : Doc)
+        → Shares c (now (table .entry)) (now (text .entry)) shared
+        → Is c (now (table .entry)) (now (text .entry)) fixed d
+        → Gives c (now (table .entry)) (now (text .entry))
+        r (now (table .exit)) (now (text .exit))
+        (besideDoc d (now (says .entry))))
+        ⌝ }
 {
     let mut space = [32u8; 256];
     let n = put(&mut space, 2, says);
@@ -45,7 +52,12 @@ fn beside(
 
 // The remark filled on lines of its own.
 fn lower(c: Counts, table: &mut [u32], text: &mut [u8], shared: Shared, says: &[u8]) -> Made
-    ensures { λ r. ⌜ (Shares c (now (table .entry)) (now (text .entry)) shared → Gives c (now (table .entry)) (now (text .entry)) r (now (table .exit)) (now (text .exit)) (lowerDoc (now (says .entry)))) ⌝ }
+    ensures { λ r. ⌜
+        (Shares c (now (table .entry)) (now (text .entry)) shared
+        → Gives c (now (table .entry)) (now (text .entry))
+        r (now (table .exit)) (now (text .exit))
+        (lowerDoc (now (says .entry))))
+        ⌝ }
 {
     let hardline = shared.hardline;
     let made = filled(c, table, text, shared, says, WRAPPED);
@@ -68,7 +80,14 @@ fn below(
     fixed: NodeNo,
     says: &[u8],
 ) -> Made
-    ensures { λ r. ⌜ ((d : Doc) → Shares c (now (table .entry)) (now (text .entry)) shared → Is c (now (table .entry)) (now (text .entry)) fixed d → Gives c (now (table .entry)) (now (text .entry)) r (now (table .exit)) (now (text .exit)) (belowDoc d (now (says .entry)))) ⌝ }
+    ensures { λ r. ⌜
+        ((d : Doc)
+        → Shares c (now (table .entry)) (now (text .entry)) shared
+        → Is c (now (table .entry)) (now (text .entry)) fixed d
+        → Gives c (now (table .entry)) (now (text .entry))
+        r (now (table .exit)) (now (text .exit))
+        (belowDoc d (now (says .entry))))
+        ⌝ }
 {
     let made = lower(c, table, text, shared, says);
     let Made::Node(c, one) = made else {
@@ -88,7 +107,14 @@ fn remarked(
     says: &[u8],
 ) -> Made
     requires { ⌜ length (now says) ≤ 200 ⌝ }
-    ensures { λ r. ⌜ ((d : Doc) → Shares c (now (table .entry)) (now (text .entry)) shared → Is c (now (table .entry)) (now (text .entry)) fixed d → Gives c (now (table .entry)) (now (text .entry)) r (now (table .exit)) (now (text .exit)) (union (besideDoc d (now (says .entry))) (belowDoc d (now (says .entry))))) ⌝ }
+    ensures { λ r. ⌜
+        ((d : Doc)
+        → Shares c (now (table .entry)) (now (text .entry)) shared
+        → Is c (now (table .entry)) (now (text .entry)) fixed d
+        → Gives c (now (table .entry)) (now (text .entry))
+        r (now (table .exit)) (now (text .exit))
+        (union (besideDoc d (now (says .entry))) (belowDoc d (now (says .entry)))))
+        ⌝ }
 {
     let made = beside(c, table, text, shared, fixed, says);
     let Made::Node(c, first) = made else {
@@ -112,7 +138,14 @@ pub fn ended(
     from: usize,
 ) -> Made
     requires { ⌜ length (now line) ≤ 200 ⌝ }
-    ensures { λ r. ⌜ ((d : Doc) → Shares c (now (table .entry)) (now (text .entry)) shared → Is c (now (table .entry)) (now (text .entry)) fixed d → Gives c (now (table .entry)) (now (text .entry)) r (now (table .exit)) (now (text .exit)) (endedDoc d (remark (now (line .entry)) from))) ⌝ }
+    ensures { λ r. ⌜
+        ((d : Doc)
+        → Shares c (now (table .entry)) (now (text .entry)) shared
+        → Is c (now (table .entry)) (now (text .entry)) fixed d
+        → Gives c (now (table .entry)) (now (text .entry))
+        r (now (table .exit)) (now (text .exit))
+        (endedDoc d (remark (now (line .entry)) from)))
+        ⌝ }
 {
     let hardline = shared.hardline;
     let end = trimmed(line);

@@ -1,8 +1,5 @@
 -- The laws of cutting a text into words.
---     rest-is                     all from a place on
---     blank-.., no-blanks         blanks at a place
---     trim-..                     blanks at the end
---     goes-on, words-end, word-on     where words end that stay together
+--     blank-after, goes-on, words-end, word-on, at-.., all-together     where words end that stay together
 --     words-next, no-words        the next word, and the last
 -- Assumes nothing.
 use Prim.Native.Nat.{ℕ, zero, suc, _+_, _-_, _≤_, _<_}
@@ -16,9 +13,8 @@ use lib.Seq.{take-all, take-suc, drop-drop, length-take-le}
 use lib.Dec.{eqb, ltb}
 use borrow.Author.Tests.{eq-eqb, ne-eqb, le-leb, lt-leb, lt-ltb, le-ltb, ltb-true, ltb-false}
 use Rattle.choice.specs.Pick.{pick}
-use Rattle.buffer.specs.Parts.{goesOn}
+use Rattle.buffer.specs.Parts.{goesOn, blanks, skipped, trimmed}
 use Rattle.buffer.proofs.Reading.{more, done}
-use Rattle.buffer.specs.Parts.{blanks, skipped, trimmed}
 use Rattle.words.specs.Words.{ends, togetherOn, together, wordsOn}
 
 -- ---- words that stay together

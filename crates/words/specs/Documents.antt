@@ -4,8 +4,7 @@ use mathlib.Core.List.{List, map}
 use lib.ListN.{length, drop}
 use Rattle.table.specs.Document.{Doc}
 use Rattle.build.specs.Documents.{textDoc, softlineDoc, intersperseDoc}
-use Rattle.buffer.specs.Parts.{characters}
-use Rattle.buffer.specs.Parts.{blanks}
+use Rattle.buffer.specs.Parts.{characters, blanks}
 use Rattle.words.specs.Words.{wordsOn}
 
 -- a Text, a column for each character

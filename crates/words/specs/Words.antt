@@ -5,7 +5,7 @@ use mathlib.Core.List.{List, [], _∷_}
 use lib.ListN.{take, drop}
 use lib.Dec.{eqb, leb, ltb}
 use Rattle.choice.specs.Pick.{pick}
-use Rattle.buffer.specs.Parts.{goesOn}
+use Rattle.buffer.specs.Parts.{goesOn, skipped}
 
 -- whether words end before a byte: they have all the columns there are, or twelve of them and a blank follows
 abbrev pub ends : ℕ → ℕ → ℕ → Bool

@@ -14,7 +14,15 @@ use Rattle.chest.proofs.add_lines.Tie as tie
 
 abbrev Inv-loop : tie.InvT-loop
 Inv-loop table₀ text₀ shared input c₀ n₀ line₀ at₀ table text c n line at =
-    (length table ≡ length table₀) × (length text ≡ length text₀) × (line ≤ at) × (line + length (lines (drop at input)) ≡ length (lines input)) × (ValidSoFar c₀ table₀ text₀ → Shares c₀ table₀ text₀ shared → Lined shared input at c table text n)
+    (length table ≡ length table₀)
+    ×
+    (length text ≡ length text₀)
+    ×
+    (line ≤ at)
+    ×
+    (line + length (lines (drop at input)) ≡ length (lines input))
+    ×
+    (ValidSoFar c₀ table₀ text₀ → Shares c₀ table₀ text₀ shared → Lined shared input at c table text n)
 
 abbrev μ-loop : tie.MeasureT-loop
 μ-loop table₀ text₀ shared input c₀ n₀ line₀ at₀ table text c n line at = length input - at
@@ -58,14 +66,10 @@ enum-known-made : tie.Need-enum-known-made Inv-loop μ-loop
 enum-known-made c = search needs
 
 same-length : tie.Need-same-length Inv-loop μ-loop
-same-length c =
-    let after-added = c .before .before .before .before .before .before .before in
-    after-added .added .kept .1 .0 ∙ after-added .before .before .before .before .before .before .loop .inv .0
+same-length c = search needs
 
 same-length-2 : tie.Need-same-length-2 Inv-loop μ-loop
-same-length-2 c =
-    let after-added = c .before .before .before .before .before .before .before in
-    after-added .added .kept .1 .1 .0 ∙ after-added .before .before .before .before .before .before .loop .inv .1
+same-length-2 c = search needs
 
 returns : tie.Need-returns Inv-loop μ-loop
 returns c =
@@ -88,14 +92,19 @@ loop-again c =
     let start = turn .before .before .before .before .before in
     let L = turn .loop in
     let part-end-result = after-part-end .part-end .result in
-    let part-end-ensures = after-part-end .part-end .ensures in
-    (search needs, search needs, omega (arith, after-part-end .part-end .ensures, L .inv .2), omega (arith, count-next (start .args .input .now) (L .at) part-end-result part-end-ensures (omega arith), L .inv .3), λ v s. one-lined (L .inv .4 v s) part-end-result part-end-ensures (omega arith) (after-added .added .ensures) (c .before .made2 .given .1))
+    let part-end-ensures = after-part-end .part-end .ensures in (
+      search needs,
+      search needs,
+      omega (arith, after-part-end .part-end .ensures, L .inv .2),
+      omega (arith, count-next (start .args .input .now) (L .at) part-end-result part-end-ensures (omega arith), L .inv .3),
+      λ v s. one-lined (L .inv .4 v s) part-end-result part-end-ensures (omega arith) (after-added .added .ensures) (c .before .made2 .given .1),
+    )
 
 same-length-3 : tie.Need-same-length-3 Inv-loop μ-loop
-same-length-3 c = c .before .loop .inv .0
+same-length-3 c = search needs
 
 same-length-4 : tie.Need-same-length-4 Inv-loop μ-loop
-same-length-4 c = c .before .loop .inv .1
+same-length-4 c = search needs
 
 returns-2 : tie.Need-returns-2 Inv-loop μ-loop
 returns-2 c =

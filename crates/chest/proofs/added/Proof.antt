@@ -31,10 +31,10 @@ enum-told : tie.Need-enum-told
 enum-told c = search needs
 
 same-length : tie.Need-same-length
-same-length c = c .before .before .before .before .before .before .part .kept .1 .0
+same-length c = search needs
 
 same-length-2 : tie.Need-same-length-2
-same-length-2 c = c .before .before .before .before .before .before .part .kept .1 .1 .0
+same-length-2 c = search needs
 
 returns : tie.Need-returns
 returns c = λ d s i. refused (c .enum-told .given .1)
@@ -43,12 +43,10 @@ append-requires : tie.Need-append-requires
 append-requires c κs = tt
 
 same-length-3 : tie.Need-same-length-3
-same-length-3 c =
-    let after-append = c .before .before in
-    after-append .append .kept .1 .0 ∙ after-append .before .before .before .before .before .before .before .before .before .before .part .kept .1 .0
+same-length-3 c = search needs
 
 same-length-4 : tie.Need-same-length-4
-same-length-4 c = c .before .before .before .before .before .before .before .before .before .before .before .before .part .kept .1 .1 .0
+same-length-4 c = search needs
 
 returns-2 : tie.Need-returns-2
 unfolding partDoc
@@ -59,7 +57,11 @@ returns-2 c =
     let after-body-end = after-part .before .before .before .before in
     let start = after-body-end .before .before .before .before in
     let line-2 = start .args .line .now in
-    λ d s i. after (gives refl (ap (λ (n : ℕ). saysDoc (take n line-2) (parsed (take n line-2))) (after-body-end .body-end .ensures)) (after-part .part .ensures s)) (after-made .made .given .1) (λ b. appends (kept b i) (new b) (after-append .append .ensures))
+    λ d s i.
+    after
+    (gives refl (ap (λ (n : ℕ). saysDoc (take n line-2) (parsed (take n line-2))) (after-body-end .body-end .ensures)) (after-part .part .ensures s))
+    (after-made .made .given .1)
+    (λ b. appends (kept b i) (new b) (after-append .append .ensures))
 
 pub added-spec : {M : Type 1} → statement M
 added-spec =

@@ -15,10 +15,10 @@ enum-told : tie.Need-enum-told
 enum-told c = search needs
 
 same-length : tie.Need-same-length
-same-length c = c .before .before .before .before .before .before .share .kept .0
+same-length c = search needs
 
 same-length-2 : tie.Need-same-length-2
-same-length-2 c = c .before .before .before .before .before .before .share .kept .1 .0
+same-length-2 c = search needs
 
 returns : tie.Need-returns
 returns c = search needs
@@ -27,14 +27,10 @@ whole-requires : tie.Need-whole-requires
 whole-requires c κs = tt
 
 same-length-3 : tie.Need-same-length-3
-same-length-3 c =
-    let after-whole = c .before .before .before .before in
-    after-whole .whole .kept .1 .0 ∙ after-whole .before .before .before .before .before .before .before .before .before .before .share .kept .0
+same-length-3 c = search needs
 
 same-length-4 : tie.Need-same-length-4
-same-length-4 c =
-    let after-whole = c .before .before .before .before in
-    after-whole .whole .kept .1 .1 .0 ∙ after-whole .before .before .before .before .before .before .before .before .before .before .share .kept .1 .0
+same-length-4 c = search needs
 
 returns-2 : tie.Need-returns-2
 returns-2 c =

@@ -36,10 +36,10 @@ enum-told-3 : tie.Need-enum-told-3
 enum-told-3 c = search needs
 
 same-length : tie.Need-same-length
-same-length c = c .before .before .before .before .row .kept .1 .0
+same-length c = search needs
 
 same-length-2 : tie.Need-same-length-2
-same-length-2 c = c .before .before .before .before .row .kept .1 .1 .0
+same-length-2 c = search needs
 
 returns : tie.Need-returns
 unfolding saysDoc
@@ -51,10 +51,10 @@ returns c =
     λ s. gives refl (ap (saysDoc (start .args .line .now)) (sym (after-says .says .given .1) ∙ after-parse .parse .ensures)) (after-row .row .ensures s)
 
 same-length-3 : tie.Need-same-length-3
-same-length-3 c = c .before .before .before .before .heading .kept .1 .0
+same-length-3 c = search needs
 
 same-length-4 : tie.Need-same-length-4
-same-length-4 c = c .before .before .before .before .heading .kept .1 .1 .0
+same-length-4 c = search needs
 
 returns-2 : tie.Need-returns-2
 unfolding saysDoc
@@ -64,7 +64,11 @@ returns-2 c =
     let after-enum-told = after-behind .before .before .before in
     let after-parse = after-enum-told .before .before in
     let start = after-parse .before .before .before .before .before .before in
-    λ s. gives refl (ap (λ (l : List ℕ). appendDoc (filledDoc 42 l) hardline) (after-behind .behind .ensures) ∙ ap (saysDoc (start .args .line .now)) (sym (after-enum-told .enum-told .given .1) ∙ after-parse .parse .ensures)) (after-heading .heading .ensures s)
+    λ s.
+    gives
+    refl
+    (ap (λ (l : List ℕ). appendDoc (filledDoc 42 l) hardline) (after-behind .behind .ensures) ∙ ap (saysDoc (start .args .line .now)) (sym (after-enum-told .enum-told .given .1) ∙ after-parse .parse .ensures))
+    (after-heading .heading .ensures s)
 
 returns-3 : tie.Need-returns-3
 unfolding saysDoc

@@ -26,10 +26,10 @@ enum-known-made-2 : tie.Need-enum-known-made-2
 enum-known-made-2 c = search needs
 
 same-length : tie.Need-same-length
-same-length c = c .before .before .before .before .before .before .before .add-lines .kept .1 .0
+same-length c = search needs
 
 same-length-2 : tie.Need-same-length-2
-same-length-2 c = c .before .before .before .before .before .before .before .add-lines .kept .1 .1 .0
+same-length-2 c = search needs
 
 returns : tie.Need-returns
 returns c =
@@ -38,14 +38,10 @@ returns c =
     λ v s. joined (start .args .input .now) (start .args .shared) _ _ (c .before .lines .given .1) (after-add-lines .add-lines .ensures v s)
 
 same-length-3 : tie.Need-same-length-3
-same-length-3 c =
-    let after-footed = c .before .before .before .before .before .before .before in
-    after-footed .footed .kept .1 .0 ∙ after-footed .before .before .before .before .before .before .before .before .before .before .add-lines .kept .1 .0
+same-length-3 c = search needs
 
 same-length-4 : tie.Need-same-length-4
-same-length-4 c =
-    let after-footed = c .before .before .before .before .before .before .before in
-    after-footed .footed .kept .1 .1 .0 ∙ after-footed .before .before .before .before .before .before .before .before .before .before .add-lines .kept .1 .1 .0
+same-length-4 c = search needs
 
 returns-2 : tie.Need-returns-2
 returns-2 c =
@@ -55,14 +51,10 @@ returns-2 c =
     λ v s. (joined (start .args .input .now) (start .args .shared) _ _ (after-lines2 .lines2 .given .1) (after-add-lines .add-lines .ensures v s)) .3
 
 same-length-5 : tie.Need-same-length-5
-same-length-5 c =
-    let after-footed = c .before .before .before .before .before .before .before in
-    after-footed .footed .kept .1 .0 ∙ after-footed .before .before .before .before .before .before .before .before .before .before .add-lines .kept .1 .0
+same-length-5 c = search needs
 
 same-length-6 : tie.Need-same-length-6
-same-length-6 c =
-    let after-footed = c .before .before .before .before .before .before .before in
-    after-footed .footed .kept .1 .1 .0 ∙ after-footed .before .before .before .before .before .before .before .before .before .before .add-lines .kept .1 .1 .0
+same-length-6 c = search needs
 
 returns-3 : tie.Need-returns-3
 unfolding sheetDoc
@@ -71,7 +63,9 @@ returns-3 c =
     let after-lines2 = after-footed .before .before .before .before in
     let after-add-lines = after-lines2 .before .before .before .before .before .before in
     let start = after-add-lines .before .before .before .before .before .before in
-    λ v s. let j = (joined (start .args .input .now) (start .args .shared) _ _ (after-lines2 .lines2 .given .1) (after-add-lines .add-lines .ensures v s)) in let b = after-footed .footed .ensures _ (j .1) (j .2) _ _ (c .before .made2 .given .1) (j .0) in (b .valid, new b)
+    λ v s.
+    let j = (joined (start .args .input .now) (start .args .shared) _ _ (after-lines2 .lines2 .given .1) (after-add-lines .add-lines .ensures v s)) in
+    let b = after-footed .footed .ensures _ (j .1) (j .2) _ _ (c .before .made2 .given .1) (j .0) in (b .valid, new b)
 
 pub whole-spec : {M : Type 1} → statement M
 whole-spec =

@@ -17,10 +17,10 @@ leaf-requires : tie.Need-leaf-requires
 leaf-requires c κs = tt
 
 same-length : tie.Need-same-length
-same-length c = c .before .before .before .before .leaf .kept .1 .0
+same-length c = search needs
 
 same-length-2 : tie.Need-same-length-2
-same-length-2 c = c .before .before .before .before .leaf .kept .1 .1 .0
+same-length-2 c = search needs
 
 returns : tie.Need-returns
 returns c =
@@ -77,10 +77,10 @@ leaf-requires-2 : tie.Need-leaf-requires-2
 leaf-requires-2 c κs = tt
 
 same-length-3 : tie.Need-same-length-3
-same-length-3 c = c .before .before .before .before .leaf2 .kept .1 .0
+same-length-3 c = search needs
 
 same-length-4 : tie.Need-same-length-4
-same-length-4 c = c .before .before .before .before .leaf2 .kept .1 .1 .0
+same-length-4 c = search needs
 
 returns-2 : tie.Need-returns-2
 returns-2 c =
@@ -93,7 +93,10 @@ returns-2 c =
     let after-put-digits = after-put .before .before .before .before in
     let after-if1 = after-put-digits .before .before in
     let start = after-if1 .before .before .before in
-    gives refl (ap leafDoc (after-front .front .ensures ∙ said-of-all (start .args .rows) allText withinText _ (after-behind .behind .ensures ∙ after-put-digits .put-digits .ensures) (after-put .put .ensures) (after-put2 .put2 .ensures) (after-put3 .put3 .ensures) (omega arith)) ∙ within-all (start .args .rows) (after-if1 .if1 .left)) (after-leaf2 .leaf2 .ensures)
+    gives
+    refl
+    (ap leafDoc (after-front .front .ensures ∙ said-of-all (start .args .rows) allText withinText _ (after-behind .behind .ensures ∙ after-put-digits .put-digits .ensures) (after-put .put .ensures) (after-put2 .put2 .ensures) (after-put3 .put3 .ensures) (omega arith)) ∙ within-all (start .args .rows) (after-if1 .if1 .left))
+    (after-leaf2 .leaf2 .ensures)
 
 pub all-within-spec : {M : Type 1} → statement M
 all-within-spec =

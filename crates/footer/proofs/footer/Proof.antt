@@ -26,10 +26,10 @@ enum-told : tie.Need-enum-told
 enum-told c = search needs
 
 same-length : tie.Need-same-length
-same-length c = c .before .before .before .before .before .before .said .kept .1 .0
+same-length c = search needs
 
 same-length-2 : tie.Need-same-length-2
-same-length-2 c = c .before .before .before .before .before .before .said .kept .1 .1 .0
+same-length-2 c = search needs
 
 returns-2 : tie.Need-returns-2
 returns-2 c = λ s. refused (c .enum-told .given .1)
@@ -41,12 +41,10 @@ concat-requires : tie.Need-concat-requires
 concat-requires c κs = tt
 
 same-length-3 : tie.Need-same-length-3
-same-length-3 c =
-    let after-concat = c .before .before in
-    after-concat .concat .kept .1 .0 ∙ after-concat .before .before .before .before .before .before .before .before .before .before .before .said .kept .1 .0
+same-length-3 c = search needs
 
 same-length-4 : tie.Need-same-length-4
-same-length-4 c = c .before .before .before .before .before .before .before .before .before .before .before .before .before .said .kept .1 .1 .0
+same-length-4 c = search needs
 
 returns-3 : tie.Need-returns-3
 returns-3 c =
@@ -56,7 +54,11 @@ returns-3 c =
     let after-if1 = after-said .before .before .before in
     let after-count = after-if1 .before .before in
     let start = after-count .before .before .before .before .before .before in
-    λ s. gives refl (footer-some _ (lines (start .args .input .now)) (after-count .count .ensures .0) (after-if1 .if1 .left)) (after (after-said .said .ensures s) (after-made .made .given .1) (λ b. joins (kept b (s .hardline)) (new b) (kept b (s .hardline)) (after-concat .concat .ensures)))
+    λ s.
+    gives
+    refl
+    (footer-some _ (lines (start .args .input .now)) (after-count .count .ensures .0) (after-if1 .if1 .left))
+    (after (after-said .said .ensures s) (after-made .made .given .1) (λ b. joins (kept b (s .hardline)) (new b) (kept b (s .hardline)) (after-concat .concat .ensures)))
 
 pub footer-spec : {M : Type 1} → statement M
 footer-spec =

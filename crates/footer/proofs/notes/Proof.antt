@@ -7,8 +7,7 @@ use mathlib.Core.List.{map}
 use lib.ListN.{length, drop}
 use Rattle.table.specs.Document.{nil}
 use Rattle.build.specs.Documents.{intersperseDoc}
-use Rattle.buffer.specs.Parts.{lines}
-use Rattle.buffer.specs.Parts.{between}
+use Rattle.buffer.specs.Parts.{lines, between}
 use Rattle.results.specs.Standing.{outNotes}
 use Rattle.results.proofs.Walking.{first-of}
 use Rattle.words.specs.Documents.{leafDoc}
@@ -22,7 +21,11 @@ use Rattle.footer.proofs.notes.Tie as tie
 
 abbrev Inv-loop : tie.InvT-loop
 Inv-loop table₀ text₀ comma input c₀ n₀ between₀ at₀ table text c n between at =
-    (length table ≡ length table₀) × (length text ≡ length text₀) × (Is c₀ table₀ text₀ n₀ nil → Is c₀ table₀ text₀ comma commaDoc → Adding c₀ table₀ text₀ commaDoc (intersperseDoc (map leafDoc (outNotes (lines input))) commaDoc) (outNotes (lines (drop at input))) c table text n between)
+    (length table ≡ length table₀)
+    ×
+    (length text ≡ length text₀)
+    ×
+    (Is c₀ table₀ text₀ n₀ nil → Is c₀ table₀ text₀ comma commaDoc → Adding c₀ table₀ text₀ commaDoc (intersperseDoc (map leafDoc (outNotes (lines input))) commaDoc) (outNotes (lines (drop at input))) c table text n between)
 
 abbrev μ-loop : tie.MeasureT-loop
 μ-loop table₀ text₀ comma input c₀ n₀ between₀ at₀ table text c n between at = length input - at
@@ -43,10 +46,10 @@ enum-told : tie.Need-enum-told Inv-loop μ-loop
 enum-told c = search needs
 
 same-length : tie.Need-same-length Inv-loop μ-loop
-same-length c = c .before .before .before .before .loop .inv .0
+same-length c = search needs
 
 same-length-2 : tie.Need-same-length-2 Inv-loop μ-loop
-same-length-2 c = c .before .before .before .before .loop .inv .1
+same-length-2 c = search needs
 
 returns : tie.Need-returns Inv-loop μ-loop
 returns c =
@@ -92,14 +95,10 @@ enum-told-2 : tie.Need-enum-told-2 Inv-loop μ-loop
 enum-told-2 c = search needs
 
 same-length-3 : tie.Need-same-length-3 Inv-loop μ-loop
-same-length-3 c =
-    let after-add-word = c .before .before .before .before .before .before in
-    after-add-word .add-word .kept .1 .0 ∙ after-add-word .before .before .before .before .before .before .before .before .before .loop .inv .0
+same-length-3 c = search needs
 
 same-length-4 : tie.Need-same-length-4 Inv-loop μ-loop
-same-length-4 c =
-    let after-add-word = c .before .before .before .before .before .before in
-    after-add-word .add-word .kept .1 .1 .0 ∙ after-add-word .before .before .before .before .before .before .before .before .before .loop .inv .1
+same-length-4 c = search needs
 
 returns-2 : tie.Need-returns-2 Inv-loop μ-loop
 returns-2 c = λ i j. refused (c .enum-told2 .given .1)
@@ -133,10 +132,10 @@ loop-again c =
     (search needs, search needs, λ i j. one-added (turn .loop .inv .2 i j) _ _ (f .names) (after-add-word .add-word .ensures) (c .before .made .given .1) j)
 
 same-length-5 : tie.Need-same-length-5 Inv-loop μ-loop
-same-length-5 c = c .before .loop .inv .0
+same-length-5 c = search needs
 
 same-length-6 : tie.Need-same-length-6 Inv-loop μ-loop
-same-length-6 c = c .before .loop .inv .1
+same-length-6 c = search needs
 
 returns-3 : tie.Need-returns-3 Inv-loop μ-loop
 returns-3 c =

@@ -1,4 +1,5 @@
 -- `footer::said` meets its contract. Assumes nothing.
+use borrow.Author.Needs.{needs}
 use mathlib.Core.Path.{refl}
 use Rattle.buffer.specs.Parts.{lines}
 use Rattle.results.specs.Standing.{outNotes}
@@ -11,10 +12,10 @@ all-within-requires : tie.Need-all-within-requires
 all-within-requires c κs = tt
 
 same-length : tie.Need-same-length
-same-length c = c .before .before .before .before .all-within .kept .1 .0
+same-length c = search needs
 
 same-length-2 : tie.Need-same-length-2
-same-length-2 c = c .before .before .before .before .all-within .kept .1 .1 .0
+same-length-2 c = search needs
 
 returns : tie.Need-returns
 returns c =
@@ -27,10 +28,10 @@ named-requires : tie.Need-named-requires
 named-requires c κs = tt
 
 same-length-3 : tie.Need-same-length-3
-same-length-3 c = c .before .before .before .before .named .kept .1 .0
+same-length-3 c = search needs
 
 same-length-4 : tie.Need-same-length-4
-same-length-4 c = c .before .before .before .before .named .kept .1 .1 .0
+same-length-4 c = search needs
 
 returns-2 : tie.Need-returns-2
 returns-2 c =

@@ -33,15 +33,39 @@ returns-3 : tie.Need-returns-3
 returns-3 c =
     let after-part-end2 = c .before .before .before in
     let after-part-end = after-part-end2 .before .before in
-    let start = after-part-end .before .before in
-    (no-remark (start .args .s .now) (after-part-end .part-end .result) (after-part-end .part-end .ensures) (after-part-end2 .part-end2 .result) (after-part-end2 .part-end2 .ensures) (omega arith) (c .before .part-end3 .result) (c .before .part-end3 .ensures) (omega arith) (c .if3 .taken), tt)
+    let start = after-part-end .before .before in (
+      no-remark
+          (start .args .s .now)
+          (after-part-end .part-end .result)
+          (after-part-end .part-end .ensures)
+          (after-part-end2 .part-end2 .result)
+          (after-part-end2 .part-end2 .ensures)
+          (omega arith)
+          (c .before .part-end3 .result)
+          (c .before .part-end3 .ensures)
+          (omega arith)
+          (c .if3 .taken),
+      tt,
+    )
 
 returns-4 : tie.Need-returns-4
 returns-4 c =
     let after-part-end2 = c .before .before .before in
     let after-part-end = after-part-end2 .before .before in
-    let start = after-part-end .before .before in
-    (fields-are (start .args .s .now) (after-part-end .part-end .result) (after-part-end .part-end .ensures) (after-part-end2 .part-end2 .result) (after-part-end2 .part-end2 .ensures) (omega arith) (c .before .part-end3 .result) (c .before .part-end3 .ensures) (omega arith) (omega arith), (omega arith, omega arith, omega arith))
+    let start = after-part-end .before .before in (
+      fields-are
+          (start .args .s .now)
+          (after-part-end .part-end .result)
+          (after-part-end .part-end .ensures)
+          (after-part-end2 .part-end2 .result)
+          (after-part-end2 .part-end2 .ensures)
+          (omega arith)
+          (c .before .part-end3 .result)
+          (c .before .part-end3 .ensures)
+          (omega arith)
+          (omega arith),
+      (omega arith, omega arith, omega arith),
+    )
 
 pub fields-spec : {M : Type 1} → statement M
 fields-spec =

@@ -1,8 +1,7 @@
 -- `results::pallet_at` meets its contract: by the note's bytes and columns, then force and pluck point. Assumes nothing.
 use borrow.Author.Needs.{needs}
 use native.Mathlib.Omega.{arith}
-use mathlib.Core.Path.{sym, _∙_}
-use mathlib.Core.Path.{ap₂}
+use mathlib.Core.Path.{sym, _∙_, ap₂}
 use lib.Seq.{length-take-le}
 use Rattle.results.specs.Pallets.{measured}
 use Rattle.results.proofs.Saying.{no-note, long-note, pallet-is}
@@ -76,7 +75,9 @@ returns-3 c =
     let after-is-blank = after-if1 .before in
     let start = after-is-blank .before .before .before in
     let a = start .args in
-    c .measured .ensures ∙ ap₂ (measured (a .first) (a .second) (a .third)) (after-number .number .ensures) (c .before .tenths .ensures) ∙ pallet-is (a .s .now) (a .first) (a .second) (a .third) (sym (after-is-blank .is-blank .ensures) ∙ after-if1 .if1 .left) (after-columns .columns .result) (after-columns .columns .ensures) (omega arith)
+    c .measured .ensures
+    ∙ ap₂ (measured (a .first) (a .second) (a .third)) (after-number .number .ensures) (c .before .tenths .ensures)
+    ∙ pallet-is (a .s .now) (a .first) (a .second) (a .third) (sym (after-is-blank .is-blank .ensures) ∙ after-if1 .if1 .left) (after-columns .columns .result) (after-columns .columns .ensures) (omega arith)
 
 pub pallet-at-spec : {M : Type 1} → statement M
 pallet-at-spec =

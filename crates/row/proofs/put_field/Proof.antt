@@ -1,5 +1,6 @@
 -- `row::put_field` meets its contract. Assumes nothing.
 use borrow.Author.Needs.{needs}
+use native.Mathlib.Omega.{arith}
 use Rattle.buffer.proofs.Placing.{placed-length}
 use Rattle.row.proofs.Columns.{field-adds}
 use Rattle.row.proofs.put_field.Statement.{statement}
@@ -21,7 +22,7 @@ put-requires : tie.Need-put-requires
 put-requires c κs = search needs
 
 put-requires-2 : tie.Need-put-requires-2
-put-requires-2 c κs = placed-length (c .before .before .before .put .ensures) (c .before .before .before .before .before .before .further .ensures .1) .1
+put-requires-2 c κs = placed-length (c .before .before .before .put .ensures) (omega arith) .1
 
 same-length : tie.Need-same-length
 same-length c = search needs
@@ -37,18 +38,13 @@ returns c =
     let start = after-part-end .before .before .before .before in
     let a = start .args in
     field-adds
-    (a .out .now)
-    (a .at)
     (a .s .now)
     (a .width)
     (a .unit .now)
-    (after-part-end .part-end .result)
     (after-part-end .part-end .ensures)
-    (after-missing .missing .result)
     (after-missing .missing .ensures)
-    (after-further .further .result)
+    (start .pre)
     (after-further .further .ensures)
-    _
     (after-front .front .ensures)
     (after-put .put .ensures)
     (after-put2 .put2 .ensures)

@@ -1,8 +1,6 @@
 -- `row::put_row` meets its contract. Assumes nothing.
 use borrow.Author.Needs.{needs}
 use native.Mathlib.Omega.{arith}
-use Prim.Native.Nat.{ℕ, _-_}
-use mathlib.Core.Path.{ap, _∙_}
 use Rattle.buffer.proofs.Placing.{placed-length}
 use Rattle.row.proofs.Columns.{fields-add}
 use Rattle.row.proofs.put_row.Statement.{statement}
@@ -33,7 +31,9 @@ slice-aggregate-put-field : tie.Need-slice-aggregate-put-field
 slice-aggregate-put-field c = search needs
 
 put-field-requires : tie.Need-put-field-requires
-put-field-requires c κs = search needs
+put-field-requires c κs =
+    let passed = c .before .before .before in
+    omega (arith, passed .further .ensures, placed-length (passed .before .before .before .before .put .ensures) (omega arith) .1)
 
 behind-requires-2 : tie.Need-behind-requires-2
 behind-requires-2 c κs = tt
@@ -61,7 +61,20 @@ returns c =
     let after-part-end = after-front .before in
     let start = after-part-end .before .before .before in
     let a = start .args in
-    fields-add (a .out .now) (a .line .now) (a .p) (after-part-end .part-end .result) (after-part-end .part-end .ensures) _ (after-front .front .ensures) (after-missing .missing .result) (after-missing .missing .ensures ∙ ap (λ (k : ℕ). 6 - k) (after-columns .columns .ensures)) (after-put .put .ensures) (after-further .further .result) (after-further .further .ensures .0) _ (after-behind .behind .ensures) _ (after-put-field .put-field .result) (after-put-field .put-field .kept .0) (after-put-field .put-field .ensures .0) _ (after-behind2 .behind2 .ensures) _ (after-put-field2 .put-field2 .result) (after-put-field2 .put-field2 .ensures .0)
+    fields-add
+    (a .line .now)
+    (a .p)
+    (after-part-end .part-end .ensures)
+    (after-front .front .ensures)
+    (after-columns .columns .ensures)
+    (after-missing .missing .ensures)
+    (after-put .put .ensures)
+    (after-further .further .ensures)
+    (after-behind .behind .ensures)
+    (after-put-field .put-field .kept .0)
+    (after-put-field .put-field .ensures .0)
+    (after-behind2 .behind2 .ensures)
+    (after-put-field2 .put-field2 .ensures .0)
 
 pub put-row-spec : {M : Type 1} → statement M
 put-row-spec =

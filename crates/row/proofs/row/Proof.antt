@@ -34,10 +34,10 @@ enum-told : tie.Need-enum-told
 enum-told c = search needs
 
 same-length : tie.Need-same-length
-same-length c = c .before .before .before .before .before .before .leaf .kept .1 .0
+same-length c = search needs
 
 same-length-2 : tie.Need-same-length-2
-same-length-2 c = c .before .before .before .before .before .before .leaf .kept .1 .1 .0
+same-length-2 c = search needs
 
 returns : tie.Need-returns
 returns c = λ s. refused (c .enum-told .given .1)
@@ -52,14 +52,10 @@ label-requires : tie.Need-label-requires
 label-requires c κs = tt
 
 same-length-3 : tie.Need-same-length-3
-same-length-3 c =
-    let after-ended = c .before .before .before .before .before .before in
-    after-ended .ended .kept .1 .0 ∙ after-ended .before .before .before .before .before .before .before .before .before .before .leaf .kept .1 .0
+same-length-3 c = search needs
 
 same-length-4 : tie.Need-same-length-4
-same-length-4 c =
-    let after-ended = c .before .before .before .before .before .before in
-    after-ended .ended .kept .1 .1 .0 ∙ after-ended .before .before .before .before .before .before .before .before .before .before .leaf .kept .1 .1 .0
+same-length-4 c = search needs
 
 returns-2 : tie.Need-returns-2
 unfolding rowDoc
@@ -70,7 +66,13 @@ returns-2 c =
     let after-front = after-leaf .before in
     let after-put-row = after-front .before .before .before .before .before in
     let start = after-put-row .before .before .before .before .before in
-    λ s. let a = start .args in let is = after-front .front .ensures ∙ written-at 64 0 (fields (a .line .now) (a .p)) _ (after-put-row .put-row .result) (omega arith) (after-put-row .put-row .ensures) ∙ fields-fit (row-sound (a .line .now) (a .p) (start .pre)) in gives refl (marked-none (c .before .label .result) _ (c .before .label .ensures) _ (c .if1 .taken)) (after (gives refl (ap leafDoc is) (after-leaf .leaf .ensures)) (after-made .made .given .1) (λ b. after-ended .ended .ensures _ (shares-kept b s) (new b)))
+    λ s.
+    let a = start .args in
+    let is = after-front .front .ensures ∙ written-at 64 0 (fields (a .line .now) (a .p)) _ (after-put-row .put-row .result) (omega arith) (after-put-row .put-row .ensures) ∙ fields-fit (row-sound (a .line .now) (a .p) (start .pre)) in
+    gives
+    refl
+    (marked-none (c .before .label .result) _ (c .before .label .ensures) _ (c .if1 .taken))
+    (after (gives refl (ap leafDoc is) (after-leaf .leaf .ensures)) (after-made .made .given .1) (λ b. after-ended .ended .ensures _ (shares-kept b s) (new b)))
 
 enum-known-made-2 : tie.Need-enum-known-made-2
 enum-known-made-2 c = search needs
@@ -79,14 +81,10 @@ enum-told-2 : tie.Need-enum-told-2
 enum-told-2 c = search needs
 
 same-length-5 : tie.Need-same-length-5
-same-length-5 c =
-    let after-ended = c .before .before .before .before .before .before .before .before in
-    after-ended .ended .kept .1 .0 ∙ after-ended .before .before .before .before .before .before .before .before .before .before .leaf .kept .1 .0
+same-length-5 c = search needs
 
 same-length-6 : tie.Need-same-length-6
-same-length-6 c =
-    let after-ended = c .before .before .before .before .before .before .before .before in
-    after-ended .ended .kept .1 .1 .0 ∙ after-ended .before .before .before .before .before .before .before .before .before .before .leaf .kept .1 .1 .0
+same-length-6 c = search needs
 
 returns-3 : tie.Need-returns-3
 returns-3 c = λ s. refused (c .enum-told2 .given .1)
@@ -95,15 +93,10 @@ annotate-requires : tie.Need-annotate-requires
 annotate-requires c κs = tt
 
 same-length-7 : tie.Need-same-length-7
-same-length-7 c =
-    let after-annotate = c .before .before in
-    let after-ended = after-annotate .before .before .before .before .before .before .before .before .before .before .before .before in
-    after-annotate .annotate .kept .1 .0 ∙ after-ended .ended .kept .1 .0 ∙ after-ended .before .before .before .before .before .before .before .before .before .before .leaf .kept .1 .0
+same-length-7 c = search needs
 
 same-length-8 : tie.Need-same-length-8
-same-length-8 c =
-    let after-ended = c .before .before .before .before .before .before .before .before .before .before .before .before .before .before in
-    after-ended .ended .kept .1 .1 .0 ∙ after-ended .before .before .before .before .before .before .before .before .before .before .leaf .kept .1 .1 .0
+same-length-8 c = search needs
 
 returns-4 : tie.Need-returns-4
 unfolding rowDoc
@@ -118,7 +111,13 @@ returns-4 c =
     let after-front = after-leaf .before in
     let after-put-row = after-front .before .before .before .before .before in
     let start = after-put-row .before .before .before .before .before in
-    λ s. let a = start .args in let is = after-front .front .ensures ∙ written-at 64 0 (fields (a .line .now) (a .p)) _ (after-put-row .put-row .result) (omega arith) (after-put-row .put-row .ensures) ∙ fields-fit (row-sound (a .line .now) (a .p) (start .pre)) in gives refl (marked-some (after-label .label .result) _ (after-label .label .ensures) _ (after-if1 .if1 .left)) (after (gives refl (ap leafDoc is) (after-leaf .leaf .ensures)) (after-made .made .given .1) (λ b. after (after-ended .ended .ensures _ (shares-kept b s) (new b)) (after-made2 .made2 .given .1) (λ q. annotates (new q) (after-label .label .result) (after-annotate .annotate .ensures))))
+    λ s.
+    let a = start .args in
+    let is = after-front .front .ensures ∙ written-at 64 0 (fields (a .line .now) (a .p)) _ (after-put-row .put-row .result) (omega arith) (after-put-row .put-row .ensures) ∙ fields-fit (row-sound (a .line .now) (a .p) (start .pre)) in
+    gives
+    refl
+    (marked-some (after-label .label .result) _ (after-label .label .ensures) _ (after-if1 .if1 .left))
+    (after (gives refl (ap leafDoc is) (after-leaf .leaf .ensures)) (after-made .made .given .1) (λ b. after (after-ended .ended .ensures _ (shares-kept b s) (new b)) (after-made2 .made2 .given .1) (λ q. annotates (new q) (after-label .label .result) (after-annotate .annotate .ensures))))
 
 pub row-spec : {M : Type 1} → statement M
 row-spec =

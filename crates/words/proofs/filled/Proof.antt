@@ -81,14 +81,10 @@ enum-told : tie.Need-enum-told Inv-loop μ-loop
 enum-told c = search needs
 
 same-length : tie.Need-same-length Inv-loop μ-loop
-same-length c =
-    let after-add-word = c .before .before .before .before .before .before in
-    after-add-word .add-word .kept .1 .0 ∙ after-add-word .before .before .before .before .before .before .before .loop .inv .0
+same-length c = search needs
 
 same-length-2 : tie.Need-same-length-2 Inv-loop μ-loop
-same-length-2 c =
-    let after-add-word = c .before .before .before .before .before .before in
-    after-add-word .add-word .kept .1 .1 .0 ∙ after-add-word .before .before .before .before .before .before .before .loop .inv .1
+same-length-2 c = search needs
 
 returns : tie.Need-returns Inv-loop μ-loop
 returns c = λ i. refused (c .enum-told .given .1)
@@ -116,10 +112,10 @@ loop-again c =
     (search needs, search needs, fill-next (L .inv .2) size (c .skip2 .result) (omega arith) is some (c .skip2 .ensures) (after-add-word .add-word .ensures) (after-made .made .given .1))
 
 same-length-3 : tie.Need-same-length-3 Inv-loop μ-loop
-same-length-3 c = c .before .loop .inv .0
+same-length-3 c = search needs
 
 same-length-4 : tie.Need-same-length-4 Inv-loop μ-loop
-same-length-4 c = c .before .loop .inv .1
+same-length-4 c = search needs
 
 returns-2 : tie.Need-returns-2 Inv-loop μ-loop
 returns-2 c = λ i. fill-end (c .before .loop .inv .2) (omega arith) (i .none) (i .softline)

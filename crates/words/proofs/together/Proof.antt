@@ -57,8 +57,13 @@ returns c =
     let most = start .args .most in
     let b = getD s (L .i) 0 in
     let g : goesOn b ≡ false = starts-is b ∙ after-if1 .if1 .left in
-    let last = blank-after b (L .i) (L .last) (omega arith) in
-    (at-blank _ (L .i) (c .if3 .taken) ∙ sym (words-end (start .args .most) (L .wide) (L .last) s (L .i) (omega arith) g (after-last-blank .last-blank .result) (after-last-blank .last-blank .ensures) (sym (c .before .if2 .taken) ∙ after-ends .ends .ensures)) ∙ L .inv .4, omega arith, omega (arith, last, after-last-blank .last-blank .ensures))
+    let last = blank-after b (L .i) (L .last) (omega arith) in (
+      at-blank _ (L .i) (c .if3 .taken)
+          ∙ sym (words-end (start .args .most) (L .wide) (L .last) s (L .i) (omega arith) g (after-last-blank .last-blank .result) (after-last-blank .last-blank .ensures) (sym (c .before .if2 .taken) ∙ after-ends .ends .ensures))
+          ∙ L .inv .4,
+      omega arith,
+      omega (arith, last, after-last-blank .last-blank .ensures),
+    )
 
 returns-2 : tie.Need-returns-2 Inv-loop μ-loop
 returns-2 c =
@@ -71,8 +76,13 @@ returns-2 c =
     let s = start .args .s .now in
     let most = start .args .most in
     let b = getD s (L .i) 0 in
-    let g : goesOn b ≡ false = starts-is b ∙ after-if1 .if1 .left in
-    (at-none _ (L .i) (c .if3 .left) ∙ sym (words-end (start .args .most) (L .wide) (L .last) s (L .i) (omega arith) g (after-last-blank .last-blank .result) (after-last-blank .last-blank .ensures) (sym (c .before .if2 .taken) ∙ after-ends .ends .ensures)) ∙ L .inv .4, omega arith, omega arith)
+    let g : goesOn b ≡ false = starts-is b ∙ after-if1 .if1 .left in (
+      at-none _ (L .i) (c .if3 .left)
+          ∙ sym (words-end (start .args .most) (L .wide) (L .last) s (L .i) (omega arith) g (after-last-blank .last-blank .result) (after-last-blank .last-blank .ensures) (sym (c .before .if2 .taken) ∙ after-ends .ends .ensures))
+          ∙ L .inv .4,
+      omega arith,
+      omega arith,
+    )
 
 add-wide : tie.Need-add-wide Inv-loop μ-loop
 add-wide c = omega arith
@@ -94,8 +104,13 @@ loop-again-2 c =
     let most = start .args .most in
     let b = getD s (L .i) 0 in
     let g : goesOn b ≡ false = starts-is b ∙ after-if1 .if1 .left in
-    let last = blank-after b (L .i) (L .last) (omega arith) in
-    (omega arith, omega arith, omega arith, omega (arith, last, after-last-blank .last-blank .ensures), sym (word-on (start .args .most) (L .wide) (L .last) s (L .i) (omega arith) g (after-last-blank .last-blank .result) (after-last-blank .last-blank .ensures) (sym (c .if2 .left) ∙ c .before .ends .ensures)) ∙ L .inv .4)
+    let last = blank-after b (L .i) (L .last) (omega arith) in (
+      omega arith,
+      omega arith,
+      omega arith,
+      omega (arith, last, after-last-blank .last-blank .ensures),
+      sym (word-on (start .args .most) (L .wide) (L .last) s (L .i) (omega arith) g (after-last-blank .last-blank .result) (after-last-blank .last-blank .ensures) (sym (c .if2 .left) ∙ c .before .ends .ensures)) ∙ L .inv .4,
+    )
 
 returns-3 : tie.Need-returns-3 Inv-loop μ-loop
 returns-3 c =

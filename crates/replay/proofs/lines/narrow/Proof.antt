@@ -53,7 +53,8 @@ loop-again c =
     let L = c .before .before .before .loop in
     let a = c .before .before .before .before .args in (
       omega (arith, L .inv .2, c .before .before .loop-test .taken),
-      ap (λ (l : List ℕ). set l (L .i) (getD (a .wide .now) (L .i) 0 % 256)) (L .inv .1) ∙ narrow-more (a .bytes .now) (a .wide .now) (L .i) (omega (arith, L .inv .2, c .before .before .loop-test .taken)) (omega (arith, c .before .if1 .left)),
+      ap (λ (l : List ℕ). set l (L .i) (getD (a .wide .now) (L .i) 0 % 256)) (L .inv .1)
+          ∙ narrow-more (a .bytes .now) (a .wide .now) (L .i) (omega (arith, L .inv .2, c .before .before .loop-test .taken)) (omega (arith, c .before .if1 .left)),
       simp length-set (L .inv .2),
     )
 

@@ -23,8 +23,25 @@ returns c =
     let one = c .before .before .before .before .number in
     let e = one .ensures in
     let many = c .number2 in
-    let m = many .ensures in
-    (number-times (s .args .base) (s .args .s .now) (s .args .from) (s .args .first) (one .result .value) (one .result .end) (e .0) (e .2) (many .result .value) (many .result .end) (c .before .before .before .if1 .taken) (c .before .if2 .taken) (m .0) (m .2), omega (arith, e .2, m .2), m .3)
+    let m = many .ensures in (
+      number-times
+          (s .args .base)
+          (s .args .s .now)
+          (s .args .from)
+          (s .args .first)
+          (one .result .value)
+          (one .result .end)
+          (e .0)
+          (e .2)
+          (many .result .value)
+          (many .result .end)
+          (c .before .before .before .if1 .taken)
+          (c .before .if2 .taken)
+          (m .0)
+          (m .2),
+      omega (arith, e .2, m .2),
+      m .3,
+    )
 
 returns-2 : tie.Need-returns-2
 returns-2 c =

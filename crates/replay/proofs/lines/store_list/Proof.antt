@@ -55,7 +55,9 @@ loop-again c =
     let put = c .before .before .store .ensures in
     let xs = replicate (it .result .times) (it .result .value) in
     let l = listed (a .base) between (drop (it .result .end) (a .s .now)) in
-    let reads : listed (a .base) between (drop (L .at) (a .s .now)) ≡ xs ++ l = list-number (a .base) (a .s .now) (L .at) (d .result) (d .ensures) (c .before .before .before .before .before .before .before .before .before .loop-test .taken) (c .before .before .before .before .before .before .if1 .taken) ∙ it .ensures .0 in
+    let reads : listed (a .base) between (drop (L .at) (a .s .now)) ≡ xs ++ l =
+    list-number (a .base) (a .s .now) (L .at) (d .result) (d .ensures) (c .before .before .before .before .before .before .before .before .before .loop-test .taken) (c .before .before .before .before .before .before .if1 .taken)
+    ∙ it .ensures .0 in
     let m = stored-more (L .out) (L .count) (L .inv .1) xs l _ _ (put .0) (put .1) in
     (it .ensures .2, m .2, m .3 ∙ L .inv .2, sym (ap (stored (L .out) (L .count)) reads ∙ m .0) ∙ L .inv .3, sym (ap (countAfter (L .out) (L .count)) reads ∙ m .1) ∙ L .inv .4)
 

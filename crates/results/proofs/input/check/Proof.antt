@@ -1,13 +1,11 @@
 -- `results::input::check` meets its contract: the first fault among the lines that are left is the first of all, so far as none was before. Assumes nothing.
 use borrow.Author.Needs.{needs}
 use native.Mathlib.Omega.{arith}
-use mathlib.Core.Path.{_≡_, refl, sym, ap, _∙_}
+use mathlib.Core.Path.{_≡_, refl, _∙_}
 use Prim.Native.Nat.{_+_, _-_, _≤_}
 use lib.ListN.{length, drop}
 use Rattle.buffer.specs.Parts.{lines}
-use Rattle.results.specs.declared.input.Verdict.{Verdict}
-use Rattle.results.specs.Pallets.{firstOf, checked}
-use Rattle.buffer.proofs.Reading.{part-within}
+use Rattle.results.specs.Pallets.{checked}
 use Rattle.results.proofs.Saying.{check-line, rest-none}
 use Rattle.results.proofs.input.check.Statement.{statement}
 use Rattle.results.proofs.input.check.Tie as tie
@@ -21,8 +19,8 @@ abbrev μ-loop : tie.MeasureT-loop
 loop-holds : tie.Need-loop-holds Inv-loop μ-loop
 loop-holds c = (omega arith, omega arith, refl)
 
-part-end-requires : tie.Need-part-end-requires Inv-loop μ-loop
-part-end-requires c κs = search needs
+line-end-requires : tie.Need-line-end-requires Inv-loop μ-loop
+line-end-requires c κs = search needs
 
 sub-told : tie.Need-sub-told Inv-loop μ-loop
 sub-told c = search needs
@@ -31,11 +29,7 @@ part-told-start : tie.Need-part-told-start Inv-loop μ-loop
 part-told-start c = search needs
 
 part-told-end : tie.Need-part-told-end Inv-loop μ-loop
-part-told-end c =
-    let turn = c .before .before in
-    let start = turn .before .before in
-    let L = turn .loop in
-    omega (arith, part-within (start .args .input .now) (L .at) 10 (omega arith), c .part-end .ensures)
+part-told-end c = search needs
 
 told-requires : tie.Need-told-requires Inv-loop μ-loop
 told-requires c κs = search needs
@@ -48,30 +42,21 @@ add-t12 c = search needs
 
 returns : tie.Need-returns Inv-loop μ-loop
 returns c =
-    let after-told = c .before .before .before in
-    let after-part-end = after-told .before .before in
-    let turn = after-part-end .before .before in
-    let start = turn .before .before in
-    let L = turn .loop in
-    let s = start .args .input .now in
-    let end = after-part-end .part-end .result in
-    let rest = checked (L .before + 1) (lines (drop (end + 1) s)) in
-    ap (λ (v : Verdict). firstOf (L .before + 1) v rest) (sym (c .before .verdict .given .1) ∙ after-told .told .ensures) ∙ check-line s (L .at) (L .before) end (after-part-end .part-end .ensures) (omega arith) ∙ L .inv .2
+    let told = c .before .before .before in
+    let ended = told .before .before in
+    let L = ended .before .before .loop in
+    check-line (ended .line-end .ensures) (omega arith) (L .before) (c .before .verdict .given .1) (told .told .ensures) ∙ L .inv .2
 
 enum-told : tie.Need-enum-told Inv-loop μ-loop
 enum-told c = search needs
 
 returns-2 : tie.Need-returns-2 Inv-loop μ-loop
 returns-2 c =
-    let after-told = c .before .before .before in
-    let after-part-end = after-told .before .before in
-    let turn = after-part-end .before .before in
-    let start = turn .before .before in
-    let L = turn .loop in
-    let s = start .args .input .now in
-    let end = after-part-end .part-end .result in
-    let rest = checked (L .before + 1) (lines (drop (end + 1) s)) in
-    rest-none s (L .before + 1) (end + 1) (omega arith) ∙ ap (λ (v : Verdict). firstOf (L .before + 1) v rest) (sym (c .before .enum-told .given .1) ∙ after-told .told .ensures) ∙ check-line s (L .at) (L .before) end (after-part-end .part-end .ensures) (omega arith) ∙ L .inv .2
+    let told = c .before .before .before in
+    let ended = told .before .before in
+    let L = ended .before .before .loop in
+    let s = ended .before .before .before .before .args .input .now in
+    rest-none s (L .before + 1) (ended .line-end .result + 1) (omega arith) ∙ check-line (ended .line-end .ensures) (omega arith) (L .before) (c .before .enum-told .given .1) (told .told .ensures) ∙ L .inv .2
 
 add-before : tie.Need-add-before Inv-loop μ-loop
 add-before c = search needs
@@ -84,15 +69,10 @@ loop-less c = search needs
 
 loop-again : tie.Need-loop-again Inv-loop μ-loop
 loop-again c =
-    let after-told = c .before .before .before in
-    let after-part-end = after-told .before .before in
-    let turn = after-part-end .before .before in
-    let start = turn .before .before in
-    let L = turn .loop in
-    let s = start .args .input .now in
-    let end = after-part-end .part-end .result in
-    let rest = checked (L .before + 1) (lines (drop (end + 1) s)) in
-    (omega arith, omega arith, ap (λ (v : Verdict). firstOf (L .before + 1) v rest) (sym (c .before .enum-told .given .1) ∙ after-told .told .ensures) ∙ check-line s (L .at) (L .before) end (after-part-end .part-end .ensures) (omega arith) ∙ L .inv .2)
+    let told = c .before .before .before in
+    let ended = told .before .before in
+    let L = ended .before .before .loop in
+    (omega arith, omega arith, check-line (ended .line-end .ensures) (omega arith) (L .before) (c .before .enum-told .given .1) (told .told .ensures) ∙ L .inv .2)
 
 returns-3 : tie.Need-returns-3 Inv-loop μ-loop
 returns-3 c = let L = c .before .loop in rest-none (c .before .before .before .args .input .now) (L .before) (L .at) (omega arith) ∙ L .inv .2
@@ -104,7 +84,7 @@ check-spec =
     Inv-loop
     μ-loop
     loop-holds
-    part-end-requires
+    line-end-requires
     sub-told
     part-told-start
     part-told-end

@@ -1,12 +1,11 @@
 -- `results::input::told` meets its contract: by what the line says. Assumes nothing.
 use borrow.Author.Needs.{needs}
 use native.Mathlib.Omega.{arith}
-use mathlib.Core.Path.{sym, ap, _∙_}
-use Prim.Native.Nat.{ℕ}
-use lib.ListN.{take}
+use mathlib.Core.Path.{sym}
 use lib.Seq.{length-take-le}
-use Rattle.results.specs.Pallets.{parsed, verdictOf}
+use Rattle.results.specs.Pallets.{verdictOf}
 use Rattle.buffer.proofs.Reading.{body-within}
+use Rattle.results.proofs.Saying.{verdict-of}
 use Rattle.results.proofs.input.told.Statement.{statement}
 use Rattle.results.proofs.input.told.Tie as tie
 
@@ -34,38 +33,30 @@ enum-told-3 c = search needs
 returns : tie.Need-returns
 unfolding verdictOf
 returns c =
-    let after-parse = c .before .before .before in
-    let after-body-end = after-parse .before .before in
-    let start = after-body-end .before .before in
-    let s = start .args .s .now in
-    ap verdictOf (sym (c .before .line .given .1) ∙ after-parse .parse .ensures ∙ ap (λ (k : ℕ). parsed (take k s)) (after-body-end .body-end .ensures))
+    let parsed = c .before .before .before in
+    let ended = parsed .before .before in
+    verdict-of (ended .before .before .args .s .now) _ (ended .body-end .ensures) (c .before .line .given .1) (parsed .parse .ensures)
 
 returns-2 : tie.Need-returns-2
 unfolding verdictOf
 returns-2 c =
-    let after-parse = c .before .before in
-    let after-body-end = after-parse .before .before in
-    let start = after-body-end .before .before in
-    let s = start .args .s .now in
-    ap verdictOf (sym (c .enum-told .given .1) ∙ after-parse .parse .ensures ∙ ap (λ (k : ℕ). parsed (take k s)) (after-body-end .body-end .ensures))
+    let parsed = c .before .before in
+    let ended = parsed .before .before in
+    verdict-of (ended .before .before .args .s .now) _ (ended .body-end .ensures) (c .enum-told .given .1) (parsed .parse .ensures)
 
 returns-3 : tie.Need-returns-3
 unfolding verdictOf
 returns-3 c =
-    let after-parse = c .before .before in
-    let after-body-end = after-parse .before .before in
-    let start = after-body-end .before .before in
-    let s = start .args .s .now in
-    ap verdictOf (sym (c .enum-told2 .given .1) ∙ after-parse .parse .ensures ∙ ap (λ (k : ℕ). parsed (take k s)) (after-body-end .body-end .ensures))
+    let parsed = c .before .before in
+    let ended = parsed .before .before in
+    verdict-of (ended .before .before .args .s .now) _ (ended .body-end .ensures) (c .enum-told2 .given .1) (parsed .parse .ensures)
 
 returns-4 : tie.Need-returns-4
 unfolding verdictOf
 returns-4 c =
-    let after-parse = c .before .before in
-    let after-body-end = after-parse .before .before in
-    let start = after-body-end .before .before in
-    let s = start .args .s .now in
-    ap verdictOf (sym (c .enum-told3 .given .1) ∙ after-parse .parse .ensures ∙ ap (λ (k : ℕ). parsed (take k s)) (after-body-end .body-end .ensures))
+    let parsed = c .before .before in
+    let ended = parsed .before .before in
+    verdict-of (ended .before .before .args .s .now) _ (ended .body-end .ensures) (c .enum-told3 .given .1) (parsed .parse .ensures)
 
 pub told-spec : {M : Type 1} → statement M
 told-spec =

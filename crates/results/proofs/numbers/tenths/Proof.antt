@@ -1,8 +1,7 @@
 -- `results::numbers::tenths` meets its contract: by length and point. Assumes nothing.
 use borrow.Author.Needs.{needs}
 use native.Mathlib.Omega.{arith}
-use mathlib.Core.Path.{sym, _∙_, subst}
-use mathlib.Core.Path.{ap₂}
+use mathlib.Core.Path.{sym, _∙_, subst, ap₂}
 use lib.Seq.{length-take-le}
 use borrow.Author.Tests.{not-true, not-false}
 use Rattle.results.specs.Numbers.{tenthsAdd, Small}
@@ -61,7 +60,9 @@ returns-4 c =
     let after-if3 = after-number .before .before in
     let after-is-point = after-if3 .before in
     let start = after-is-point .before .before .before .before .before in
-    c .tenths-add .ensures ∙ ap₂ tenthsAdd (after-number .number .ensures) (c .before .number2 .ensures) ∙ tenths-are (start .args .s .now) (omega arith) (omega arith) (sym (after-is-point .is-point .ensures) ∙ not-false _ (after-if3 .if3 .left))
+    c .tenths-add .ensures
+    ∙ ap₂ tenthsAdd (after-number .number .ensures) (c .before .number2 .ensures)
+    ∙ tenths-are (start .args .s .now) (omega arith) (omega arith) (sym (after-is-point .is-point .ensures) ∙ not-false _ (after-if3 .if3 .left))
 
 pub tenths-spec : {M : Type 1} → statement M
 tenths-spec =

@@ -4,7 +4,6 @@ use native.Mathlib.Omega.{arith}
 use mathlib.Core.Path.{sym, _∙_}
 use Prim.Native.Nat.{_-_, _≤_}
 use lib.ListN.{length}
-use Rattle.buffer.proofs.Reading.{part-within}
 use Rattle.results.proofs.Walking.{Counted, none-counted, counted-none, counted-within, counted-out, counted-all}
 use Rattle.results.proofs.tolerance.count.Statement.{statement}
 use Rattle.results.proofs.tolerance.count.Tie as tie
@@ -18,8 +17,8 @@ abbrev μ-loop : tie.MeasureT-loop
 loop-holds : tie.Need-loop-holds Inv-loop μ-loop
 loop-holds c = (omega arith, omega arith, none-counted (c .before .args .input .now))
 
-part-end-requires : tie.Need-part-end-requires Inv-loop μ-loop
-part-end-requires c κs = search needs
+line-end-requires : tie.Need-line-end-requires Inv-loop μ-loop
+line-end-requires c κs = search needs
 
 sub-line-stands : tie.Need-sub-line-stands Inv-loop μ-loop
 sub-line-stands c = search needs
@@ -28,31 +27,26 @@ part-line-stands-start : tie.Need-part-line-stands-start Inv-loop μ-loop
 part-line-stands-start c = search needs
 
 part-line-stands-end : tie.Need-part-line-stands-end Inv-loop μ-loop
-part-line-stands-end c =
-    let turn = c .before .before in
-    let start = turn .before .before in
-    omega (arith, part-within (start .args .input .now) (turn .loop .at) 10 (omega arith), c .part-end .ensures)
+part-line-stands-end c = search needs
 
 line-stands-requires : tie.Need-line-stands-requires Inv-loop μ-loop
 line-stands-requires c κs = search needs
 
 add-at : tie.Need-add-at Inv-loop μ-loop
-add-at c =
-    let after-part-end = c .before .before in
-    let turn = after-part-end .before .before in
-    let start = turn .before .before in
-    omega (arith, part-within (start .args .input .now) (turn .loop .at) 10 (omega arith), after-part-end .part-end .ensures)
+add-at c = search needs
 
 enum-told : tie.Need-enum-told Inv-loop μ-loop
 enum-told c = search needs
 
 loop-less : tie.Need-loop-less Inv-loop μ-loop
-loop-less c = omega (arith, c .before .before .before .before .part-end .ensures)
+loop-less c = search needs
 
 loop-again : tie.Need-loop-again Inv-loop μ-loop
 loop-again c =
-    let L = c .before .before .before .before .before .before .loop in
-    (omega arith, omega arith, counted-none (c .before .before .before .before .before .before .before .before .args .input .now) (L .at) (c .before .before .before .before .part-end .result) (c .before .before .before .before .part-end .ensures) (omega arith) (L .rows) (L .out) (L .inv .2) (sym (c .enum-told .given .1) ∙ c .before .before .line-stands .ensures))
+    let stood = c .before .before in
+    let ended = stood .before .before in
+    let before = ended .before .before .loop .inv .2 in
+    (omega arith, omega arith, counted-none (ended .line-end .ensures) (omega arith) before (sym (c .enum-told .given .1) ∙ stood .line-stands .ensures))
 
 enum-told-2 : tie.Need-enum-told-2 Inv-loop μ-loop
 enum-told-2 c = search needs
@@ -61,12 +55,14 @@ add-rows : tie.Need-add-rows Inv-loop μ-loop
 add-rows c = search needs
 
 loop-less-2 : tie.Need-loop-less-2 Inv-loop μ-loop
-loop-less-2 c = omega (arith, c .before .before .before .before .part-end .ensures)
+loop-less-2 c = search needs
 
 loop-again-2 : tie.Need-loop-again-2 Inv-loop μ-loop
 loop-again-2 c =
-    let L = c .before .before .before .before .before .before .loop in
-    (omega arith, omega arith, counted-within (c .before .before .before .before .before .before .before .before .args .input .now) (L .at) (c .before .before .before .before .part-end .result) (c .before .before .before .before .part-end .ensures) (omega arith) (L .rows) (L .out) (L .inv .2) (sym (c .enum-told2 .given .1) ∙ c .before .before .line-stands .ensures))
+    let stood = c .before .before in
+    let ended = stood .before .before in
+    let before = ended .before .before .loop .inv .2 in
+    (omega arith, omega arith, counted-within (ended .line-end .ensures) (omega arith) before (sym (c .enum-told2 .given .1) ∙ stood .line-stands .ensures))
 
 enum-told-3 : tie.Need-enum-told-3 Inv-loop μ-loop
 enum-told-3 c = search needs
@@ -78,15 +74,17 @@ add-out : tie.Need-add-out Inv-loop μ-loop
 add-out c = search needs
 
 loop-less-3 : tie.Need-loop-less-3 Inv-loop μ-loop
-loop-less-3 c = omega (arith, c .before .before .before .before .part-end .ensures)
+loop-less-3 c = search needs
 
 loop-again-3 : tie.Need-loop-again-3 Inv-loop μ-loop
 loop-again-3 c =
-    let L = c .before .before .before .before .before .before .loop in
-    (omega arith, omega arith, counted-out (c .before .before .before .before .before .before .before .before .args .input .now) (L .at) (c .before .before .before .before .part-end .result) (c .before .before .before .before .part-end .ensures) (omega arith) (L .rows) (L .out) (L .inv .2) (sym (c .enum-told3 .given .1) ∙ c .before .before .line-stands .ensures))
+    let stood = c .before .before in
+    let ended = stood .before .before in
+    let before = ended .before .before .loop .inv .2 in
+    (omega arith, omega arith, counted-out (ended .line-end .ensures) (omega arith) before (sym (c .enum-told3 .given .1) ∙ stood .line-stands .ensures))
 
 returns : tie.Need-returns Inv-loop μ-loop
-returns c = let L = c .before .loop in counted-all (c .before .before .before .args .input .now) (L .at) (omega arith) (L .rows) (L .out) (L .inv .2)
+returns c = counted-all (omega arith) (c .before .loop .inv .2)
 
 pub count-spec : {M : Type 1} → statement M
 count-spec =
@@ -95,7 +93,7 @@ count-spec =
     Inv-loop
     μ-loop
     loop-holds
-    part-end-requires
+    line-end-requires
     sub-line-stands
     part-line-stands-start
     part-line-stands-end

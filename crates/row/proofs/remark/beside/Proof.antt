@@ -32,10 +32,10 @@ enum-told : tie.Need-enum-told
 enum-told c = search needs
 
 same-length : tie.Need-same-length
-same-length c = c .before .before .before .before .before .before .leaf .kept .1 .0
+same-length c = search needs
 
 same-length-2 : tie.Need-same-length-2
-same-length-2 c = c .before .before .before .before .before .before .leaf .kept .1 .1 .0
+same-length-2 c = search needs
 
 returns : tie.Need-returns
 returns c = λ d s i. refused (c .enum-told .given .1)
@@ -47,12 +47,10 @@ concat-requires : tie.Need-concat-requires
 concat-requires c κs = tt
 
 same-length-3 : tie.Need-same-length-3
-same-length-3 c =
-    let after-concat = c .before .before in
-    after-concat .concat .kept .1 .0 ∙ after-concat .before .before .before .before .before .before .before .before .before .before .before .leaf .kept .1 .0
+same-length-3 c = search needs
 
 same-length-4 : tie.Need-same-length-4
-same-length-4 c = c .before .before .before .before .before .before .before .before .before .before .before .before .before .leaf .kept .1 .1 .0
+same-length-4 c = search needs
 
 returns-2 : tie.Need-returns-2
 unfolding besideDoc
@@ -63,7 +61,10 @@ returns-2 c =
     let after-front = after-leaf .before in
     let after-put = after-front .before .before .before .before .before in
     let start = after-put .before .before .before .before .before in
-    λ d s i. let says = start .args .says .now in let is = after-front .front .ensures ∙ written-at 256 2 says _ (after-put .put .result) (omega arith) (place-adds (after-put .put .ensures)) ∙ remark-fits says (start .pre) in after (gives refl (ap leafDoc is) (after-leaf .leaf .ensures)) (after-made .made .given .1) (λ b. joins (kept b i) (new b) (kept b (s .hardline)) (after-concat .concat .ensures))
+    λ d s i.
+    let says = start .args .says .now in
+    let is = after-front .front .ensures ∙ written-at 256 2 says _ (after-put .put .result) (omega arith) (place-adds (after-put .put .ensures)) ∙ remark-fits says (start .pre) in
+    after (gives refl (ap leafDoc is) (after-leaf .leaf .ensures)) (after-made .made .given .1) (λ b. joins (kept b i) (new b) (kept b (s .hardline)) (after-concat .concat .ensures))
 
 pub beside-spec : {M : Type 1} → statement M
 beside-spec =

@@ -18,10 +18,10 @@ append-requires : tie.Need-append-requires
 append-requires c κs = tt
 
 same-length : tie.Need-same-length
-same-length c = c .before .before .append .kept .1 .0
+same-length c = search needs
 
 same-length-2 : tie.Need-same-length-2
-same-length-2 c = refl
+same-length-2 c = search needs
 
 returns : tie.Need-returns
 returns c =
@@ -29,7 +29,11 @@ returns c =
     let after-skip = after-append .before .before .before .before in
     let after-trimmed = after-skip .before in
     let start = after-trimmed .before .before .before .before .before in
-    λ d s i. gives refl (ended-none d (start .args .line .now) (start .args .from) (after-trimmed .trimmed .result) (after-skip .skip .result) (after-trimmed .trimmed .ensures) (after-skip .skip .ensures) (omega arith)) (appends i (s .hardline) (after-append .append .ensures))
+    λ d s i.
+    gives
+    refl
+    (ended-none d (start .args .line .now) (start .args .from) (after-trimmed .trimmed .result) (after-skip .skip .result) (after-trimmed .trimmed .ensures) (after-skip .skip .ensures) (omega arith))
+    (appends i (s .hardline) (after-append .append .ensures))
 
 sub-remarked : tie.Need-sub-remarked
 sub-remarked c = search needs
@@ -47,10 +51,10 @@ remarked-requires : tie.Need-remarked-requires
 remarked-requires c κs = simp (length-take, length-drop) (omega (arith, c .before .before .before .before .before .before .before .before .before .before .pre))
 
 same-length-3 : tie.Need-same-length-3
-same-length-3 c = c .before .before .before .before .remarked .kept .1 .0
+same-length-3 c = search needs
 
 same-length-4 : tie.Need-same-length-4
-same-length-4 c = c .before .before .before .before .remarked .kept .1 .1 .0
+same-length-4 c = search needs
 
 returns-2 : tie.Need-returns-2
 returns-2 c =
@@ -58,7 +62,11 @@ returns-2 c =
     let after-skip = after-remarked .before .before .before .before .before in
     let after-trimmed = after-skip .before in
     let start = after-trimmed .before .before .before .before .before in
-    λ d s i. gives refl (ended-some d (start .args .line .now) (start .args .from) (after-trimmed .trimmed .result) (after-skip .skip .result) (after-trimmed .trimmed .ensures) (after-skip .skip .ensures) (omega arith)) (after-remarked .remarked .ensures d s i)
+    λ d s i.
+    gives
+    refl
+    (ended-some d (start .args .line .now) (start .args .from) (after-trimmed .trimmed .result) (after-skip .skip .result) (after-trimmed .trimmed .ensures) (after-skip .skip .ensures) (omega arith))
+    (after-remarked .remarked .ensures d s i)
 
 pub ended-spec : {M : Type 1} → statement M
 ended-spec =

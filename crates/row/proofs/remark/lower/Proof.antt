@@ -16,10 +16,10 @@ enum-told : tie.Need-enum-told
 enum-told c = search needs
 
 same-length : tie.Need-same-length
-same-length c = c .before .before .before .before .before .before .filled .kept .1 .0
+same-length c = search needs
 
 same-length-2 : tie.Need-same-length-2
-same-length-2 c = c .before .before .before .before .before .before .filled .kept .1 .1 .0
+same-length-2 c = search needs
 
 returns : tie.Need-returns
 returns c = λ s. refused (c .enum-told .given .1)
@@ -34,12 +34,10 @@ enum-told-2 : tie.Need-enum-told-2
 enum-told-2 c = search needs
 
 same-length-3 : tie.Need-same-length-3
-same-length-3 c =
-    let after-append = c .before .before .before .before in
-    after-append .append .kept .1 .0 ∙ after-append .before .before .before .before .before .before .before .before .before .before .filled .kept .1 .0
+same-length-3 c = search needs
 
 same-length-4 : tie.Need-same-length-4
-same-length-4 c = c .before .before .before .before .before .before .before .before .before .before .before .before .before .before .filled .kept .1 .1 .0
+same-length-4 c = search needs
 
 returns-2 : tie.Need-returns-2
 returns-2 c = λ s. refused (c .enum-told2 .given .1)
@@ -48,14 +46,10 @@ nest-requires : tie.Need-nest-requires
 nest-requires c κs = tt
 
 same-length-5 : tie.Need-same-length-5
-same-length-5 c =
-    let after-nest = c .before .before in
-    let after-append = after-nest .before .before .before .before .before .before .before .before in
-    after-nest .nest .kept .1 .0 ∙ after-append .append .kept .1 .0 ∙ after-append .before .before .before .before .before .before .before .before .before .before .filled .kept .1 .0
+same-length-5 c = search needs
 
 same-length-6 : tie.Need-same-length-6
-same-length-6 c =
-    c .before .before .before .before .before .before .before .before .before .before .before .before .before .before .before .before .before .before .before .before .filled .kept .1 .1 .0
+same-length-6 c = search needs
 
 returns-3 : tie.Need-returns-3
 unfolding lowerDoc
@@ -64,7 +58,11 @@ returns-3 c =
     let after-made2 = after-nest .before .before .before .before in
     let after-append = after-made2 .before .before .before .before in
     let after-made = after-append .before .before .before .before in
-    λ s. after (after-made .before .before .before .before .before .before .filled .ensures s) (after-made .made .given .1) (λ b. after (appends (kept b (s .hardline)) (new b) (after-append .append .ensures)) (after-made2 .made2 .given .1) (λ q. nests (new q) 4 0 (after-nest .nest .ensures)))
+    λ s.
+    after
+    (after-made .before .before .before .before .before .before .filled .ensures s)
+    (after-made .made .given .1)
+    (λ b. after (appends (kept b (s .hardline)) (new b) (after-append .append .ensures)) (after-made2 .made2 .given .1) (λ q. nests (new q) 4 0 (after-nest .nest .ensures)))
 
 pub lower-spec : {M : Type 1} → statement M
 lower-spec =

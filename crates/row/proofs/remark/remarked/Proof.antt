@@ -15,10 +15,10 @@ enum-told : tie.Need-enum-told
 enum-told c = search needs
 
 same-length : tie.Need-same-length
-same-length c = c .before .before .before .before .before .before .beside .kept .1 .0
+same-length c = search needs
 
 same-length-2 : tie.Need-same-length-2
-same-length-2 c = c .before .before .before .before .before .before .beside .kept .1 .1 .0
+same-length-2 c = search needs
 
 returns : tie.Need-returns
 returns c = λ d s i. refused (c .enum-told .given .1)
@@ -33,14 +33,10 @@ enum-told-2 : tie.Need-enum-told-2
 enum-told-2 c = search needs
 
 same-length-3 : tie.Need-same-length-3
-same-length-3 c =
-    let after-below = c .before .before .before .before .before .before in
-    after-below .below .kept .1 .0 ∙ after-below .before .before .before .before .before .before .before .before .before .before .beside .kept .1 .0
+same-length-3 c = search needs
 
 same-length-4 : tie.Need-same-length-4
-same-length-4 c =
-    let after-below = c .before .before .before .before .before .before in
-    after-below .below .kept .1 .1 .0 ∙ after-below .before .before .before .before .before .before .before .before .before .before .beside .kept .1 .1 .0
+same-length-4 c = search needs
 
 returns-2 : tie.Need-returns-2
 returns-2 c = λ d s i. refused (c .enum-told2 .given .1)
@@ -49,15 +45,10 @@ union-requires : tie.Need-union-requires
 union-requires c κs = tt
 
 same-length-5 : tie.Need-same-length-5
-same-length-5 c =
-    let after-union = c .before .before in
-    let after-below = after-union .before .before .before .before .before .before .before .before .before .before in
-    after-union .union .kept .1 .0 ∙ after-below .below .kept .1 .0 ∙ after-below .before .before .before .before .before .before .before .before .before .before .beside .kept .1 .0
+same-length-5 c = search needs
 
 same-length-6 : tie.Need-same-length-6
-same-length-6 c =
-    let after-below = c .before .before .before .before .before .before .before .before .before .before .before .before in
-    after-below .below .kept .1 .1 .0 ∙ after-below .before .before .before .before .before .before .before .before .before .before .beside .kept .1 .1 .0
+same-length-6 c = search needs
 
 returns-3 : tie.Need-returns-3
 returns-3 c =
@@ -65,7 +56,11 @@ returns-3 c =
     let after-made2 = after-union .before .before .before .before in
     let after-below = after-made2 .before .before .before .before .before .before in
     let after-made = after-below .before .before .before .before in
-    λ d s i. after (after-made .before .before .before .before .before .before .beside .ensures d s i) (after-made .made .given .1) (λ b. after (after-below .below .ensures d (shares-kept b s) (kept b i)) (after-made2 .made2 .given .1) (λ q. unites (kept q (new b)) (new q) (after-union .union .ensures)))
+    λ d s i.
+    after
+    (after-made .before .before .before .before .before .before .beside .ensures d s i)
+    (after-made .made .given .1)
+    (λ b. after (after-below .below .ensures d (shares-kept b s) (kept b i)) (after-made2 .made2 .given .1) (λ q. unites (kept q (new b)) (new q) (after-union .union .ensures)))
 
 pub remarked-spec : {M : Type 1} → statement M
 remarked-spec =

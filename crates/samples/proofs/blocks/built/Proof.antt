@@ -59,10 +59,7 @@ enum-told-3 : tie.Need-enum-told-3
 enum-told-3 c = search needs
 
 same-length-5 : tie.Need-same-length-5
-same-length-5 c =
-    let after-after-line2 = c .before .before .before .before .before .before in
-    let after-after-line = after-after-line2 .before .before .before .before .before .before .before .before .before .before .before in
-    after-after-line2 .after-line2 .kept .1 .0 ∙ after-after-line .after-line .kept .1 .0 ∙ after-after-line .before .before .before .before .before .before .before .before .before .before .before .text .kept .1 .0
+same-length-5 c = search needs
 
 same-length-6 : tie.Need-same-length-6
 same-length-6 c = search needs
@@ -83,18 +80,10 @@ enum-told-4 : tie.Need-enum-told-4
 enum-told-4 c = search needs
 
 same-length-7 : tie.Need-same-length-7
-same-length-7 c =
-    let after-after-line3 = c .before .before .before .before .before .before in
-    let after-after-line2 = after-after-line3 .before .before .before .before .before .before .before .before .before .before .before in
-    let after-after-line = after-after-line2 .before .before .before .before .before .before .before .before .before .before .before in
-    after-after-line3 .after-line3 .kept .1 .0 ∙ after-after-line2 .after-line2 .kept .1 .0 ∙ after-after-line .after-line .kept .1 .0 ∙ after-after-line .before .before .before .before .before .before .before .before .before .before .before .text .kept .1 .0
+same-length-7 c = search needs
 
 same-length-8 : tie.Need-same-length-8
-same-length-8 c =
-    let after-after-line3 = c .before .before .before .before .before .before in
-    let after-after-line2 = after-after-line3 .before .before .before .before .before .before .before .before .before .before .before in
-    let after-after-line = after-after-line2 .before .before .before .before .before .before .before .before .before .before .before in
-    after-after-line3 .after-line3 .kept .1 .1 .0 ∙ after-after-line2 .after-line2 .kept .1 .1 .0 ∙ after-after-line .after-line .kept .1 .1 .0 ∙ after-after-line .before .before .before .before .before .before .before .before .before .before .before .text .kept .1 .1 .0
+same-length-8 c = search needs
 
 returns-4 : tie.Need-returns-4
 returns-4 c = search needs
@@ -112,20 +101,10 @@ enum-told-5 : tie.Need-enum-told-5
 enum-told-5 c = search needs
 
 same-length-9 : tie.Need-same-length-9
-same-length-9 c =
-    let after-after-line4 = c .before .before .before .before .before .before in
-    let after-after-line3 = after-after-line4 .before .before .before .before .before .before .before .before .before .before .before in
-    let after-after-line2 = after-after-line3 .before .before .before .before .before .before .before .before .before .before .before in
-    let after-after-line = after-after-line2 .before .before .before .before .before .before .before .before .before .before .before in
-    after-after-line4 .after-line4 .kept .1 .0 ∙ after-after-line3 .after-line3 .kept .1 .0 ∙ after-after-line2 .after-line2 .kept .1 .0 ∙ after-after-line .after-line .kept .1 .0 ∙ after-after-line .before .before .before .before .before .before .before .before .before .before .before .text .kept .1 .0
+same-length-9 c = search needs
 
 same-length-10 : tie.Need-same-length-10
-same-length-10 c =
-    let after-after-line4 = c .before .before .before .before .before .before in
-    let after-after-line3 = after-after-line4 .before .before .before .before .before .before .before .before .before .before .before in
-    let after-after-line2 = after-after-line3 .before .before .before .before .before .before .before .before .before .before .before in
-    let after-after-line = after-after-line2 .before .before .before .before .before .before .before .before .before .before .before in
-    after-after-line4 .after-line4 .kept .1 .1 .0 ∙ after-after-line3 .after-line3 .kept .1 .1 .0 ∙ after-after-line2 .after-line2 .kept .1 .1 .0 ∙ after-after-line .after-line .kept .1 .1 .0 ∙ after-after-line .before .before .before .before .before .before .before .before .before .before .before .text .kept .1 .1 .0
+same-length-10 c = search needs
 
 returns-5 : tie.Need-returns-5
 returns-5 c = search needs
@@ -140,21 +119,10 @@ enum-told-6 : tie.Need-enum-told-6
 enum-told-6 c = search needs
 
 same-length-11 : tie.Need-same-length-11
-same-length-11 c =
-    let after-nil = c .before .before .before .before in
-    let after-after-line4 = after-nil .before .before .before .before .before .before .before .before .before .before in
-    let after-after-line3 = after-after-line4 .before .before .before .before .before .before .before .before .before .before .before in
-    let after-after-line2 = after-after-line3 .before .before .before .before .before .before .before .before .before .before .before in
-    let after-after-line = after-after-line2 .before .before .before .before .before .before .before .before .before .before .before in
-    after-nil .nil .kept .1 .0 ∙ after-after-line4 .after-line4 .kept .1 .0 ∙ after-after-line3 .after-line3 .kept .1 .0 ∙ after-after-line2 .after-line2 .kept .1 .0 ∙ after-after-line .after-line .kept .1 .0 ∙ after-after-line .before .before .before .before .before .before .before .before .before .before .before .text .kept .1 .0
+same-length-11 c = search needs
 
 same-length-12 : tie.Need-same-length-12
-same-length-12 c =
-    let after-after-line4 = c .before .before .before .before .before .before .before .before .before .before .before .before .before .before in
-    let after-after-line3 = after-after-line4 .before .before .before .before .before .before .before .before .before .before .before in
-    let after-after-line2 = after-after-line3 .before .before .before .before .before .before .before .before .before .before .before in
-    let after-after-line = after-after-line2 .before .before .before .before .before .before .before .before .before .before .before in
-    after-after-line4 .after-line4 .kept .1 .1 .0 ∙ after-after-line3 .after-line3 .kept .1 .1 .0 ∙ after-after-line2 .after-line2 .kept .1 .1 .0 ∙ after-after-line .after-line .kept .1 .1 .0 ∙ after-after-line .before .before .before .before .before .before .before .before .before .before .before .text .kept .1 .1 .0
+same-length-12 c = search needs
 
 returns-6 : tie.Need-returns-6
 returns-6 c = search needs
@@ -172,22 +140,10 @@ format-requires : tie.Need-format-requires
 format-requires c κs = search needs
 
 same-length-13 : tie.Need-same-length-13
-same-length-13 c =
-    let after-format = c .before .before in
-    let after-nil = after-format .before .before .before .before .before .before .before .before .before .before .before in
-    let after-after-line4 = after-nil .before .before .before .before .before .before .before .before .before .before in
-    let after-after-line3 = after-after-line4 .before .before .before .before .before .before .before .before .before .before .before in
-    let after-after-line2 = after-after-line3 .before .before .before .before .before .before .before .before .before .before .before in
-    let after-after-line = after-after-line2 .before .before .before .before .before .before .before .before .before .before .before in
-    after-format .format .kept .1 .1 .0 ∙ after-nil .nil .kept .1 .0 ∙ after-after-line4 .after-line4 .kept .1 .0 ∙ after-after-line3 .after-line3 .kept .1 .0 ∙ after-after-line2 .after-line2 .kept .1 .0 ∙ after-after-line .after-line .kept .1 .0 ∙ after-after-line .before .before .before .before .before .before .before .before .before .before .before .text .kept .1 .0
+same-length-13 c = search needs
 
 same-length-14 : tie.Need-same-length-14
-same-length-14 c =
-    let after-after-line4 = c .before .before .before .before .before .before .before .before .before .before .before .before .before .before .before .before .before .before .before .before .before .before .before in
-    let after-after-line3 = after-after-line4 .before .before .before .before .before .before .before .before .before .before .before in
-    let after-after-line2 = after-after-line3 .before .before .before .before .before .before .before .before .before .before .before in
-    let after-after-line = after-after-line2 .before .before .before .before .before .before .before .before .before .before .before in
-    after-after-line4 .after-line4 .kept .1 .1 .0 ∙ after-after-line3 .after-line3 .kept .1 .1 .0 ∙ after-after-line2 .after-line2 .kept .1 .1 .0 ∙ after-after-line .after-line .kept .1 .1 .0 ∙ after-after-line .before .before .before .before .before .before .before .before .before .before .before .text .kept .1 .1 .0
+same-length-14 c = search needs
 
 returns-7 : tie.Need-returns-7
 returns-7 c = search needs

@@ -2,8 +2,8 @@
 use borrow.Author.Needs.{needs}
 use Rattle.words.proofs.Chain.{refused, writes}
 use mathlib.Core.Path.{refl}
-use Rattle.words.proofs.texts.leaf.Statement.{statement}
-use Rattle.words.proofs.texts.leaf.Tie as tie
+use Rattle.words.proofs.leaf.Statement.{statement}
+use Rattle.words.proofs.leaf.Tie as tie
 
 columns-requires : tie.Need-columns-requires
 columns-requires c κs = tt
@@ -18,10 +18,10 @@ text-requires : tie.Need-text-requires
 text-requires c κs = tt
 
 same-length : tie.Need-same-length
-same-length c = c .before .before .before .before .text .kept .1 .0
+same-length c = search needs
 
 same-length-2 : tie.Need-same-length-2
-same-length-2 c = c .before .before .before .before .text .kept .1 .1 .0
+same-length-2 c = search needs
 
 returns-2 : tie.Need-returns-2
 returns-2 c =
