@@ -1,6 +1,6 @@
 -- The laws of the whole sheet: its lines one after the other, over the shared nodes.
---     lines-next, count-next, no-lines     the line at a place, and those after it
---     Lined, none-lined, one-lined, all-lined     the lines so far, with those to come
+--     count-next, part-is, no-lines     the line at a place, and those after it
+--     Lining, none-lined, one-lined, all-lined     the lines so far, with those to come
 --     begun, joined            what a caller has of an answer
 -- Assumes nothing.
 use Prim.Native.Nat.{ℕ, _+_, _-_, _≤_, _<_}
@@ -15,29 +15,36 @@ use Rattle.build.specs.declared.Made.{Made}
 use Rattle.build.specs.declared.Made.the-variants.{Node}
 use Rattle.build.specs.Documents.{appendDoc, joinedDoc, concatDoc}
 use Rattle.build.specs.Promise.{ValidSoFar}
-use Rattle.buffer.specs.Parts.{indexOf, lines}
+use Rattle.buffer.specs.Parts.{between, indexOf, lines, LineEnds, bodyEnd}
 use Rattle.buffer.proofs.Reading.{done, line-first}
+use Rattle.results.specs.Pallets.{parsed}
 use Rattle.words.specs.declared.Shared.{Shared}
 use Rattle.words.specs.declared.start.Start.{Start}
 use Rattle.words.specs.declared.start.Start.the-variants as start
 use Rattle.chest.specs.declared.Lines.{Lines}
-use Rattle.chest.specs.declared.Lines.the-variants as all
-use Rattle.chest.specs.Documents.{partDoc, linesDoc}
-use Rattle.words.specs.Build.{Is, Shares, Gives, Started}
-use Rattle.chest.specs.Build.{Joined}
+use Rattle.chest.specs.Documents.{saysDoc, partDoc, linesDoc}
+use Rattle.words.specs.Build.{Is, Shares, Gives}
+use Rattle.words.specs.Start.{Started}
+use Rattle.chest.specs.Build.{Lined, Joined}
 use Rattle.words.proofs.Chain.{new, shares-kept}
 
 -- ---- lines
 
 -- the line at a place, and those after it
-module _ (s : List ℕ) (at end : ℕ) (e : end ≡ at + indexOf 10 (drop at s)) (h : at < length s) where
-  pub lines-next : lines (drop at s) ≡ take (end - at) (drop at s) ∷ lines (drop (end + 1) s)
+module _ {s : List ℕ} {at end : ℕ} (l : LineEnds s at end) (h : at < length s) where
+  lines-next : lines (drop at s) ≡ between s at end ∷ lines (drop (end + 1) s)
   lines-next =
+      let e = l .is in
       let size : end - at ≡ indexOf 10 (drop at s) = omega arith in
       rw (size, e) (line-first s at h)
 
   pub count-next : length (lines (drop at s)) ≡ length (lines (drop (end + 1) s)) + 1
   count-next = ap length lines-next ∙ omega arith
+
+-- what a line says without its carriage return is what it adds
+pub part-is : (line : List ℕ) {n : ℕ} → n ≡ bodyEnd line → saysDoc (take n line) (parsed (take n line)) ≡ partDoc line
+unfolding partDoc
+part-is line e = rw e
 
 pub no-lines : (s : List ℕ) (at : ℕ) → length s ≤ at → lines (drop at s) ≡ []
 unfolding lines
@@ -49,35 +56,37 @@ joined-nil [] = refl
 joined-nil (d ∷ ds) = refl
 
 -- a valid table with its shared nodes, and the lines up to a place, which with those to come are all
-pub record Lined (shared : Shared) (input : List ℕ) (at : ℕ) (c : Counts) (t x : List ℕ) (n : NodeNo) : Type 0 where
+pub record Lining (shared : Shared) (input : List ℕ) (at : ℕ) (c : Counts) (t x : List ℕ) (n : NodeNo) : Type 0 where
   pub valid : ValidSoFar c t x
   pub shares : Shares c t x shared
   pub said : Doc
   pub is : Is c t x n said
   pub rest : joinedDoc said (map partDoc (lines (drop at input))) ≡ linesDoc input
 
-pub none-lined : (input : List ℕ) (c : Counts) (t x : List ℕ) (shared : Shared) → ValidSoFar c t x → Shares c t x shared → Lined shared input 0 c t x (shared .none)
+pub none-lined : (input : List ℕ) {c : Counts} {t x : List ℕ} {shared : Shared} → ValidSoFar c t x → Shares c t x shared → Lining shared input 0 c t x (shared .none)
 unfolding linesDoc
-none-lined input c t x shared v s = record { valid = v; shares = s; said = nil; is = s .none; rest = joined-nil (map partDoc (lines input)) }
+none-lined input v s = record { valid = v; shares = s; said = nil; is = s .none; rest = joined-nil (map partDoc (lines input)) }
 
-module _ {shared : Shared} {input : List ℕ} {at : ℕ} {c : Counts} {t x : List ℕ} {n : NodeNo} (l : Lined shared input at c t x n) where
-  pub one-lined : (end : ℕ) → end ≡ at + indexOf 10 (drop at input) → at < length input → {r : Made} {t′ x′ : List ℕ} → ((d : Doc) → Shares c t x shared → Is c t x n d → Gives c t x r t′ x′ (appendDoc d (partDoc (take (end - at) (drop at input))))) → {c′ : Counts} {n′ : NodeNo} → r ≡ Node c′ n′ → Lined shared input (end + 1) c′ t′ x′ n′
+module _ {shared : Shared} {input : List ℕ} {at : ℕ} {c : Counts} {t x : List ℕ} {n : NodeNo} (l : Lining shared input at c t x n) where
+  pub one-lined : {end : ℕ} → LineEnds input at end → at < length input
+      → {r : Made} {t′ x′ : List ℕ} → ((d : Doc) → Shares c t x shared → Is c t x n d → Gives c t x r t′ x′ (appendDoc d (partDoc (between input at end))))
+      → {c′ : Counts} {n′ : NodeNo} → r ≡ Node c′ n′ → Lining shared input (end + 1) c′ t′ x′ n′
   unfolding joinedDoc
-  one-lined end e h adds {c′} {n′} is =
+  one-lined {end} e h adds {c′} {n′} is =
       let b = adds (l .said) (l .shares) (l .is) c′ n′ is (l .valid) in
       record {
         valid = b .valid;
         shares = shares-kept b (l .shares);
-        said = appendDoc (l .said) (partDoc (take (end - at) (drop at input)));
+        said = appendDoc (l .said) (partDoc (between input at end));
         is = new b;
-        rest = sym (ap (λ (ls : List (List ℕ)). joinedDoc (l .said) (map partDoc ls)) (lines-next input at end e h)) ∙ l .rest;
+        rest = sym (ap (λ (ls : List (List ℕ)). joinedDoc (l .said) (map partDoc ls)) (lines-next e h)) ∙ l .rest;
       }
 
-  pub all-lined : length input ≤ at → (line : ℕ) → line ≡ length (lines input) → Joined input shared (all.Added c n line) t x
+  pub all-lined : length input ≤ at → {line : ℕ} → line ≡ length (lines input) → Lined input shared c n line t x
   unfolding joinedDoc
-  all-lined h line e =
+  all-lined h e =
       let d = sym (ap (λ (ls : List (List ℕ)). joinedDoc (l .said) (map partDoc ls)) (no-lines input at h)) ∙ l .rest in
-      (l .valid, l .shares, subst (Is c t x n) d (l .is), e)
+      record { valid = l .valid; shares = l .shares; is = subst (Is c t x n) d (l .is); count = e }
 
 -- ---- what a caller has of an answer
 

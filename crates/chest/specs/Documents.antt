@@ -9,6 +9,7 @@ use Rattle.buffer.specs.Parts.{lines, bodyEnd}
 use Rattle.results.specs.Pallets.{parsed}
 use Rattle.results.specs.declared.Line.{Line}
 use Rattle.results.specs.declared.Line.the-variants.{Empty, Heading, Row, Bad}
+use Rattle.words.specs.Widths.{width}
 use Rattle.words.specs.Documents.{filledDoc}
 use Rattle.row.specs.Documents.{rowDoc}
 use Rattle.footer.specs.Documents.{footerDoc}
@@ -18,7 +19,7 @@ use Rattle.footer.specs.Documents.{footerDoc}
 -- by what it says; a heading goes without its `#`, and a line at fault adds nothing
 unfoldable pub saysDoc : List ℕ → Line → Doc
 saysDoc line Empty = hardline
-saysDoc line Heading = appendDoc (filledDoc 42 (drop 1 line)) hardline
+saysDoc line Heading = appendDoc (filledDoc width (drop 1 line)) hardline
 saysDoc line (Row p) = rowDoc line p
 saysDoc line (Bad fault) = nil
 

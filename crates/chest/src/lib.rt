@@ -1,26 +1,30 @@
-// A chest's sheet, built by the constructors and the block layouts: headings and rows in order, then the footer, each ending in a Hardline.
-// Here: the sheet; a row is crate row's, the footer crate footer's, and the words of a heading crate words'. `build` has no `requires`.
+// A chest's sheet as a document, built by the constructors and the block layouts: headings and rows in order, then the footer, each ending in a
+// Hardline. A row is crate row's, the footer crate footer's, and the words of a heading crate words'. No function has a `requires`.
 ghost use Rattle.table.specs.Document as document;
 ghost use Rattle.table.specs.Document.{Doc};
 ghost use Rattle.build.specs.Documents.{appendDoc};
 ghost use Rattle.build.specs.Promise.{ValidSoFar};
 ghost use Rattle.buffer.specs.Parts.{lines};
 ghost use Rattle.results.specs.Pallets.{parsed};
+ghost use Rattle.words.specs.Widths.{width};
 ghost use Rattle.words.specs.Documents.{filledDoc};
 ghost use Rattle.chest.specs.Documents.{saysDoc, partDoc};
 ghost use Rattle.footer.specs.Documents.{footerDoc};
 ghost use Rattle.words.specs.Build.{Is, Shares, Gives};
 ghost use Rattle.chest.specs.Build.{Joined, Shows};
 use buffer::parts::behind;
+use buffer::parts::body_end;
+use buffer::parts::line_end;
 use build::Counts;
 use build::Made;
 use build::Why;
 use footer::footer;
 use results::Line;
+use results::parse;
 use row::row;
 use table::NodeNo;
 use words::Shared;
-use words::WHOLE;
+use words::WIDTH;
 use words::filled;
 use words::start::Start;
 use words::start::share;
@@ -44,11 +48,11 @@ fn heading(c: Counts, table: &mut [u32], text: &mut [u8], shared: Shared, s: &[u
         (Shares c (now (table .entry)) (now (text .entry)) shared
         → Gives c (now (table .entry)) (now (text .entry))
         r (now (table .exit)) (now (text .exit))
-        (appendDoc (filledDoc 42 (now (s .entry))) document.hardline))
+        (appendDoc (filledDoc width (now (s .entry))) document.hardline))
         ⌝ }
 {
     let hardline = shared.hardline;
-    let made = filled(c, table, text, shared, s, WHOLE);
+    let made = filled(c, table, text, shared, s, WIDTH);
     let Made::Node(c, n) = made else {
         return made;
     };
@@ -66,7 +70,7 @@ fn part(c: Counts, table: &mut [u32], text: &mut [u8], shared: Shared, line: &[u
 {
     let none = shared.none;
     let hardline = shared.hardline;
-    let says = results::parse(line);
+    let says = parse(line);
     match says {
         Line::Row(p) => row(c, table, text, shared, line, p),
         Line::Heading => heading(c, table, text, shared, behind(line, 1)),
@@ -93,7 +97,7 @@ fn added(
         (appendDoc d (partDoc (now (line .entry)))))
         ⌝ }
 {
-    let body = buffer::parts::body_end(line);
+    let body = body_end(line);
     let made = part(c, table, text, shared, &line[..body]);
     let Made::Node(c, one) = made else {
         return made;
@@ -114,7 +118,7 @@ fn add_lines(c: Counts, table: &mut [u32], text: &mut [u8], shared: Shared, inpu
     let mut line = 0;
     let mut at = 0;
     while at < input.len() {
-        let end = buffer::parts::part_end(input, at, 10);
+        let end = line_end(input, at);
         let made = added(c, table, text, shared, n, &input[at..end]);
         line += 1;
         at = end + 1;
@@ -179,11 +183,11 @@ fn whole(c: Counts, table: &mut [u32], text: &mut [u8], shared: Shared, input: &
 
 // The sheet of an input without faults; a line at fault adds nothing. Line 0 is the one that doesn't fit where not even the shared nodes do.
 pub fn build(input: &[u8], table: &mut [u32], text: &mut [u8]) -> Built
-    ensures { λ r. ⌜ (Shows (now (input .entry)) r (now (table .exit)) (now (text .exit))) ⌝ }
+    ensures { λ r. ⌜ Shows (now (input .entry)) r (now (table .exit)) (now (text .exit)) ⌝ }
 {
     let start = share(table, text);
-    let Start::Ready(c, shared) = start else {
-        return Built::Full(0, Why::Nodes);
-    };
-    whole(c, table, text, shared, input)
+    match start {
+        Start::Full(why) => Built::Full(0, why),
+        Start::Ready(c, shared) => whole(c, table, text, shared, input),
+    }
 }

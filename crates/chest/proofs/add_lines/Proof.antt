@@ -6,9 +6,8 @@ use mathlib.Core.Path.{_≡_, ap, _∙_}
 use lib.ListN.{length, drop}
 use Rattle.build.specs.Promise.{ValidSoFar}
 use Rattle.buffer.specs.Parts.{lines}
-use Rattle.buffer.proofs.Reading.{part-within}
 use Rattle.words.specs.Build.{Shares}
-use Rattle.chest.proofs.Sheets.{count-next, no-lines, Lined, none-lined, one-lined, all-lined}
+use Rattle.chest.proofs.Sheets.{count-next, no-lines, Lining, none-lined, one-lined, all-lined}
 use Rattle.chest.proofs.add_lines.Statement.{statement}
 use Rattle.chest.proofs.add_lines.Tie as tie
 
@@ -22,32 +21,25 @@ Inv-loop table₀ text₀ shared input c₀ n₀ line₀ at₀ table text c n li
     ×
     (line + length (lines (drop at input)) ≡ length (lines input))
     ×
-    (ValidSoFar c₀ table₀ text₀ → Shares c₀ table₀ text₀ shared → Lined shared input at c table text n)
+    (ValidSoFar c₀ table₀ text₀ → Shares c₀ table₀ text₀ shared → Lining shared input at c table text n)
 
 abbrev μ-loop : tie.MeasureT-loop
 μ-loop table₀ text₀ shared input c₀ n₀ line₀ at₀ table text c n line at = length input - at
 
 loop-holds : tie.Need-loop-holds Inv-loop μ-loop
-loop-holds c =
-    let start = c .before .before .before .before in
-    let a = start .args in
-    (search needs, search needs, omega arith, omega arith, none-lined (a .input .now) (a .c) (a .table .now) (a .text .now) (a .shared))
+loop-holds c = (search needs, search needs, omega arith, omega arith, none-lined _)
 
-part-end-requires : tie.Need-part-end-requires Inv-loop μ-loop
-part-end-requires c κs = tt
+line-end-requires : tie.Need-line-end-requires Inv-loop μ-loop
+line-end-requires c κs = search needs
 
 sub-added : tie.Need-sub-added Inv-loop μ-loop
-sub-added c = omega (arith, c .before .before .part-end .ensures)
+sub-added c = search needs
 
 part-added-start : tie.Need-part-added-start Inv-loop μ-loop
-part-added-start c = omega (arith, c .before .before .part-end .ensures)
+part-added-start c = search needs
 
 part-added-end : tie.Need-part-added-end Inv-loop μ-loop
-part-added-end c =
-    let after-part-end = c .before .before in
-    let turn = after-part-end .before .before in
-    let start = turn .before .before .before .before .before in
-    omega (arith, part-within (start .args .input .now) (turn .loop .at) 10 (omega arith), after-part-end .part-end .ensures)
+part-added-end c = search needs
 
 added-requires : tie.Need-added-requires Inv-loop μ-loop
 added-requires c κs = tt
@@ -56,11 +48,7 @@ add-line : tie.Need-add-line Inv-loop μ-loop
 add-line c = omega arith
 
 add-at : tie.Need-add-at Inv-loop μ-loop
-add-at c =
-    let after-part-end = c .before .before .before .before .before .before .before .before in
-    let turn = after-part-end .before .before in
-    let start = turn .before .before .before .before .before in
-    omega (arith, part-within (start .args .input .now) (turn .loop .at) 10 (omega arith), after-part-end .part-end .ensures)
+add-at c = search needs
 
 enum-known-made : tie.Need-enum-known-made Inv-loop μ-loop
 enum-known-made c = search needs
@@ -73,31 +61,26 @@ same-length-2 c = search needs
 
 returns : tie.Need-returns Inv-loop μ-loop
 returns c =
-    let after-part-end = c .before .before .before .before .before .before .before .before .before .before .before in
-    let turn = after-part-end .before .before in
-    let start = turn .before .before .before .before .before in
-    λ v s. omega (arith, count-next (start .args .input .now) (turn .loop .at) (after-part-end .part-end .result) (after-part-end .part-end .ensures) (omega arith), turn .loop .inv .3)
+    let ended = c .before .before .before .before .before .before .before .before .before .before .before in
+    λ v s. omega (arith, count-next (ended .line-end .ensures) (omega arith), ended .before .before .loop .inv .3)
 
 enum-known-made-2 : tie.Need-enum-known-made-2 Inv-loop μ-loop
 enum-known-made-2 c = search needs
 
 loop-less : tie.Need-loop-less Inv-loop μ-loop
-loop-less c = omega (arith, c .before .before .before .before .before .before .before .before .before .before .before .part-end .ensures)
+loop-less c = search needs
 
 loop-again : tie.Need-loop-again Inv-loop μ-loop
 loop-again c =
-    let after-added = c .before .before .before .before .before .before .before in
-    let after-part-end = after-added .before .before .before .before in
-    let turn = after-part-end .before .before in
-    let start = turn .before .before .before .before .before in
-    let L = turn .loop in
-    let part-end-result = after-part-end .part-end .result in
-    let part-end-ensures = after-part-end .part-end .ensures in (
+    let added = c .before .before .before .before .before .before .before in
+    let ended = added .before .before .before .before in
+    let L = ended .before .before .loop in
+    (
       search needs,
       search needs,
-      omega (arith, after-part-end .part-end .ensures, L .inv .2),
-      omega (arith, count-next (start .args .input .now) (L .at) part-end-result part-end-ensures (omega arith), L .inv .3),
-      λ v s. one-lined (L .inv .4 v s) part-end-result part-end-ensures (omega arith) (after-added .added .ensures) (c .before .made2 .given .1),
+      omega (arith, ended .line-end .ensures .ahead, L .inv .2),
+      omega (arith, count-next (ended .line-end .ensures) (omega arith), L .inv .3),
+      λ v s. one-lined (L .inv .4 v s) (ended .line-end .ensures) (omega arith) (added .added .ensures) (c .before .made2 .given .1),
     )
 
 same-length-3 : tie.Need-same-length-3 Inv-loop μ-loop
@@ -108,9 +91,8 @@ same-length-4 c = search needs
 
 returns-2 : tie.Need-returns-2 Inv-loop μ-loop
 returns-2 c =
-    let start = c .before .before .before .before .before .before in
     let L = c .before .loop in
-    λ v s. all-lined (L .inv .4 v s) (omega arith) (L .line) (omega (arith, ap length (no-lines (start .args .input .now) (L .at) (omega arith)), L .inv .3))
+    λ v s. all-lined (L .inv .4 v s) (omega arith) (omega (arith, ap length (no-lines _ (L .at) (omega arith)), L .inv .3))
 
 pub add-lines-spec : {M : Type 1} → statement M
 add-lines-spec =
@@ -119,7 +101,7 @@ add-lines-spec =
     Inv-loop
     μ-loop
     loop-holds
-    part-end-requires
+    line-end-requires
     sub-added
     part-added-start
     part-added-end

@@ -1,14 +1,11 @@
 -- `chest::added` meets its contract. Assumes nothing.
 use borrow.Author.Needs.{needs}
 use native.Mathlib.Omega.{arith}
-use Prim.Native.Nat.{ℕ}
-use mathlib.Core.Path.{refl, sym, ap, _∙_}
-use lib.ListN.{take}
+use mathlib.Core.Path.{refl, sym}
 use lib.Seq.{length-take-le}
-use Rattle.results.specs.Pallets.{parsed}
 use Rattle.buffer.proofs.Reading.{body-within}
 use Rattle.words.proofs.Chain.{new, kept, after, refused, gives, appends}
-use Rattle.chest.specs.Documents.{saysDoc, partDoc}
+use Rattle.chest.proofs.Sheets.{part-is}
 use Rattle.chest.proofs.added.Statement.{statement}
 use Rattle.chest.proofs.added.Tie as tie
 
@@ -49,17 +46,14 @@ same-length-4 : tie.Need-same-length-4
 same-length-4 c = search needs
 
 returns-2 : tie.Need-returns-2
-unfolding partDoc
 returns-2 c =
     let after-append = c .before .before in
     let after-made = after-append .before .before .before .before in
     let after-part = after-made .before .before .before .before .before .before in
     let after-body-end = after-part .before .before .before .before in
-    let start = after-body-end .before .before .before .before in
-    let line-2 = start .args .line .now in
     λ d s i.
     after
-    (gives refl (ap (λ (n : ℕ). saysDoc (take n line-2) (parsed (take n line-2))) (after-body-end .body-end .ensures)) (after-part .part .ensures s))
+    (gives refl (part-is _ (after-body-end .body-end .ensures)) (after-part .part .ensures s))
     (after-made .made .given .1)
     (λ b. appends (kept b i) (new b) (after-append .append .ensures))
 

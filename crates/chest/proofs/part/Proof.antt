@@ -6,6 +6,7 @@ use Prim.Native.Nat.{ℕ}
 use Rattle.table.specs.Document.{hardline}
 use Rattle.build.specs.Documents.{appendDoc}
 use Rattle.words.proofs.Chain.{given, gives}
+use Rattle.words.specs.Widths.{width}
 use Rattle.words.specs.Documents.{filledDoc}
 use Rattle.chest.specs.Documents.{saysDoc}
 use Rattle.chest.proofs.part.Statement.{statement}
@@ -47,8 +48,7 @@ returns c =
     let after-row = c .before .before .before .before in
     let after-says = after-row .before .before .before .before in
     let after-parse = after-says .before .before in
-    let start = after-parse .before .before .before .before .before .before in
-    λ s. gives refl (ap (saysDoc (start .args .line .now)) (sym (after-says .says .given .1) ∙ after-parse .parse .ensures)) (after-row .row .ensures s)
+    λ s. gives refl (ap (saysDoc _) (sym (after-says .says .given .1) ∙ after-parse .parse .ensures)) (after-row .row .ensures s)
 
 same-length-3 : tie.Need-same-length-3
 same-length-3 c = search needs
@@ -63,26 +63,23 @@ returns-2 c =
     let after-behind = after-heading .before in
     let after-enum-told = after-behind .before .before .before in
     let after-parse = after-enum-told .before .before in
-    let start = after-parse .before .before .before .before .before .before in
     λ s.
     gives
     refl
-    (ap (λ (l : List ℕ). appendDoc (filledDoc 42 l) hardline) (after-behind .behind .ensures) ∙ ap (saysDoc (start .args .line .now)) (sym (after-enum-told .enum-told .given .1) ∙ after-parse .parse .ensures))
+    (ap (λ (l : List ℕ). appendDoc (filledDoc width l) hardline) (after-behind .behind .ensures) ∙ ap (saysDoc _) (sym (after-enum-told .enum-told .given .1) ∙ after-parse .parse .ensures))
     (after-heading .heading .ensures s)
 
 returns-3 : tie.Need-returns-3
 unfolding saysDoc
 returns-3 c =
     let after-parse = c .before .before in
-    let start = after-parse .before .before .before .before .before .before in
-    λ s. gives refl (ap (saysDoc (start .args .line .now)) (sym (c .enum-told2 .given .1) ∙ after-parse .parse .ensures)) (given (s .hardline))
+    λ s. gives refl (ap (saysDoc _) (sym (c .enum-told2 .given .1) ∙ after-parse .parse .ensures)) (given (s .hardline))
 
 returns-4 : tie.Need-returns-4
 unfolding saysDoc
 returns-4 c =
     let after-parse = c .before .before in
-    let start = after-parse .before .before .before .before .before .before in
-    λ s. gives refl (ap (saysDoc (start .args .line .now)) (sym (c .enum-told3 .given .1) ∙ after-parse .parse .ensures)) (given (s .none))
+    λ s. gives refl (ap (saysDoc _) (sym (c .enum-told3 .given .1) ∙ after-parse .parse .ensures)) (given (s .none))
 
 pub part-spec : {M : Type 1} → statement M
 part-spec =

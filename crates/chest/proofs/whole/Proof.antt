@@ -34,8 +34,7 @@ same-length-2 c = search needs
 returns : tie.Need-returns
 returns c =
     let after-add-lines = c .before .before .before .before .before .before .before in
-    let start = after-add-lines .before .before .before .before .before .before in
-    λ v s. joined (start .args .input .now) (start .args .shared) _ _ (c .before .lines .given .1) (after-add-lines .add-lines .ensures v s)
+    λ v s. joined _ _ _ _ (c .before .lines .given .1) (after-add-lines .add-lines .ensures v s)
 
 same-length-3 : tie.Need-same-length-3
 same-length-3 c = search needs
@@ -47,8 +46,7 @@ returns-2 : tie.Need-returns-2
 returns-2 c =
     let after-lines2 = c .before .before .before .before .before .before .before .before .before .before .before in
     let after-add-lines = after-lines2 .before .before .before .before .before .before in
-    let start = after-add-lines .before .before .before .before .before .before in
-    λ v s. (joined (start .args .input .now) (start .args .shared) _ _ (after-lines2 .lines2 .given .1) (after-add-lines .add-lines .ensures v s)) .3
+    λ v s. (joined _ _ _ _ (after-lines2 .lines2 .given .1) (after-add-lines .add-lines .ensures v s)) .count
 
 same-length-5 : tie.Need-same-length-5
 same-length-5 c = search needs
@@ -62,10 +60,9 @@ returns-3 c =
     let after-footed = c .before .before .before .before .before .before .before in
     let after-lines2 = after-footed .before .before .before .before in
     let after-add-lines = after-lines2 .before .before .before .before .before .before in
-    let start = after-add-lines .before .before .before .before .before .before in
     λ v s.
-    let j = (joined (start .args .input .now) (start .args .shared) _ _ (after-lines2 .lines2 .given .1) (after-add-lines .add-lines .ensures v s)) in
-    let b = after-footed .footed .ensures _ (j .1) (j .2) _ _ (c .before .made2 .given .1) (j .0) in (b .valid, new b)
+    let j = (joined _ _ _ _ (after-lines2 .lines2 .given .1) (after-add-lines .add-lines .ensures v s)) in
+    let b = after-footed .footed .ensures _ (j .shares) (j .is) _ _ (c .before .made2 .given .1) (j .valid) in (b .valid, new b)
 
 pub whole-spec : {M : Type 1} → statement M
 whole-spec =

@@ -25,9 +25,7 @@ same-length-2 c = search needs
 returns : tie.Need-returns
 returns c =
     let after-leaf = c .before .before .before .before in
-    let after-if1 = after-leaf .before .before .before .before in
-    let start = after-if1 .before .before .before in
-    gives refl (within-one (start .args .rows) (after-if1 .if1 .taken)) (after-leaf .leaf .ensures)
+    gives refl (within-one _ (omega arith)) (after-leaf .leaf .ensures)
 
 slice-aggregate-put-digits : tie.Need-slice-aggregate-put-digits
 slice-aggregate-put-digits c = search needs
@@ -65,7 +63,7 @@ slice-aggregate-put-5 c = search needs
 put-requires-3 : tie.Need-put-requires-3
 put-requires-3 c κs =
     let after-put2 = c .before .before .before in
-    placed-length (after-put2 .put2 .ensures) (placed-length (after-put2 .before .before .before .before .before .put .ensures) (omega arith) .1) .1
+    placed-length (after-put2 .put2 .ensures) (put-requires-2 (after-put2 .before) κs) .1
 
 slice-aggregate-front : tie.Need-slice-aggregate-front
 slice-aggregate-front c = search needs
@@ -91,11 +89,11 @@ returns-2 c =
     let after-behind = after-put2 .before in
     let after-put = after-behind .before .before .before .before in
     let after-put-digits = after-put .before .before .before .before in
-    let after-if1 = after-put-digits .before .before in
-    let start = after-if1 .before .before .before in
+    let number = after-behind .behind .ensures ∙ after-put-digits .put-digits .ensures in
+    let said = said-of-all _ allText withinText number (after-put .put .ensures) (after-put2 .put2 .ensures) (after-put3 .put3 .ensures) (omega arith) in
     gives
     refl
-    (ap leafDoc (after-front .front .ensures ∙ said-of-all (start .args .rows) allText withinText _ (after-behind .behind .ensures ∙ after-put-digits .put-digits .ensures) (after-put .put .ensures) (after-put2 .put2 .ensures) (after-put3 .put3 .ensures) (omega arith)) ∙ within-all (start .args .rows) (after-if1 .if1 .left))
+    (ap leafDoc (after-front .front .ensures ∙ said) ∙ within-all _ (λ z. omega arith))
     (after-leaf2 .leaf2 .ensures)
 
 pub all-within-spec : {M : Type 1} → statement M

@@ -12,9 +12,7 @@ count-requires c κs = tt
 
 returns : tie.Need-returns
 returns c =
-    let after-count = c .before .before in
-    let start = after-count .before .before .before .before .before .before in
-    λ s. gives refl (footer-none _ (lines (start .args .input .now)) (after-count .count .ensures .0) (c .if1 .taken)) (given (s .none))
+    λ s. gives refl (footer-none _ (c .if1 .taken) (cc)) (given (s .none))
 
 said-requires : tie.Need-said-requires
 said-requires c κs = search needs
@@ -51,13 +49,10 @@ returns-3 c =
     let after-concat = c .before .before in
     let after-made = after-concat .before .before .before .before .before in
     let after-said = after-made .before .before .before .before .before .before in
-    let after-if1 = after-said .before .before .before in
-    let after-count = after-if1 .before .before in
-    let start = after-count .before .before .before .before .before .before in
     λ s.
     gives
     refl
-    (footer-some _ (lines (start .args .input .now)) (after-count .count .ensures .0) (after-if1 .if1 .left))
+    (footer-some _ (after-said .before .before .before .if1 .left) (cc))
     (after (after-said .said .ensures s) (after-made .made .given .1) (λ b. joins (kept b (s .hardline)) (new b) (kept b (s .hardline)) (after-concat .concat .ensures)))
 
 pub footer-spec : {M : Type 1} → statement M

@@ -55,34 +55,23 @@ returns : tie.Need-returns Inv-loop μ-loop
 returns c =
     let after-next-out = c .before .before in
     let turn = after-next-out .before .before in
-    let start = turn .before .before .before .before in
-    λ i j. all-added (turn .loop .inv .2 i j) (no-more (start .args .input .now) (turn .loop .at) (c .enum-told .given .1) (after-next-out .next-out .ensures .1))
+    λ i j. all-added (turn .loop .inv .2 i j) (no-more _ _ (c .enum-told .given .1) (after-next-out .next-out .ensures .1))
 
 sub-add-word : tie.Need-sub-add-word Inv-loop μ-loop
 sub-add-word c =
     let after-next = c .before .before .before in
     let after-next-out = after-next .before .before in
-    let turn = after-next-out .before .before in
-    let start = turn .before .before .before .before in
-    let f = first-of (start .args .input .now) (turn .loop .at) (after-next .next .given .1) (after-next-out .next-out .ensures .1) in
+    let f = first-of _ _ (after-next .next .given .1) (after-next-out .next-out .ensures .1) in
     omega (arith, f .note)
 
 part-add-word-start : tie.Need-part-add-word-start Inv-loop μ-loop
-part-add-word-start c =
-    let after-next = c .before .before .before in
-    let after-next-out = after-next .before .before in
-    let turn = after-next-out .before .before in
-    let start = turn .before .before .before .before in
-    let f = first-of (start .args .input .now) (turn .loop .at) (after-next .next .given .1) (after-next-out .next-out .ensures .1) in
-    omega (arith, f .note)
+part-add-word-start c = omega (arith, sub-add-word c)
 
 part-add-word-end : tie.Need-part-add-word-end Inv-loop μ-loop
 part-add-word-end c =
     let after-next = c .before .before .before in
     let after-next-out = after-next .before .before in
-    let turn = after-next-out .before .before in
-    let start = turn .before .before .before .before in
-    let f = first-of (start .args .input .now) (turn .loop .at) (after-next .next .given .1) (after-next-out .next-out .ensures .1) in
+    let f = first-of _ _ (after-next .next .given .1) (after-next-out .next-out .ensures .1) in
     omega (arith, f .line, f .inside)
 
 add-word-requires : tie.Need-add-word-requires Inv-loop μ-loop
@@ -107,18 +96,15 @@ add-at : tie.Need-add-at Inv-loop μ-loop
 add-at c =
     let after-next = c .before .before .before .before .before .before .before .before .before .before .before .before in
     let after-next-out = after-next .before .before in
-    let turn = after-next-out .before .before in
-    let start = turn .before .before .before .before in
-    let f = first-of (start .args .input .now) (turn .loop .at) (after-next .next .given .1) (after-next-out .next-out .ensures .1) in
+    let f = first-of _ _ (after-next .next .given .1) (after-next-out .next-out .ensures .1) in
+    let start = after-next-out .before .before .before .before .before .before in
     omega (arith, f .inside, start .good .1 .1 .1 .1 .1 .0)
 
 loop-less : tie.Need-loop-less Inv-loop μ-loop
 loop-less c =
     let after-next = c .before .before .before .before .before .before .before .before .before .before .before .before in
     let after-next-out = after-next .before .before in
-    let turn = after-next-out .before .before in
-    let start = turn .before .before .before .before in
-    let f = first-of (start .args .input .now) (turn .loop .at) (after-next .next .given .1) (after-next-out .next-out .ensures .1) in
+    let f = first-of _ _ (after-next .next .given .1) (after-next-out .next-out .ensures .1) in
     omega (arith, f .ahead, f .note, f .line)
 
 loop-again : tie.Need-loop-again Inv-loop μ-loop
@@ -127,8 +113,7 @@ loop-again c =
     let after-next = after-add-word .before .before .before .before .before in
     let after-next-out = after-next .before .before in
     let turn = after-next-out .before .before in
-    let start = turn .before .before .before .before in
-    let f = first-of (start .args .input .now) (turn .loop .at) (after-next .next .given .1) (after-next-out .next-out .ensures .1) in
+    let f = first-of _ _ (after-next .next .given .1) (after-next-out .next-out .ensures .1) in
     (search needs, search needs, λ i j. one-added (turn .loop .inv .2 i j) _ _ (f .names) (after-add-word .add-word .ensures) (c .before .made .given .1) j)
 
 same-length-5 : tie.Need-same-length-5 Inv-loop μ-loop
@@ -139,8 +124,7 @@ same-length-6 c = search needs
 
 returns-3 : tie.Need-returns-3 Inv-loop μ-loop
 returns-3 c =
-    let start = c .before .before .before .before .before in
-    λ i j. all-added (c .before .loop .inv .2 i j) (no-notes (start .args .input .now) (c .before .loop .at) (omega arith))
+    λ i j. all-added (c .before .loop .inv .2 i j) (no-notes _ (c .before .loop .at) (omega arith))
 
 pub notes-spec : {M : Type 1} → statement M
 notes-spec =

@@ -1,8 +1,6 @@
 -- `footer::said` meets its contract. Assumes nothing.
 use borrow.Author.Needs.{needs}
 use mathlib.Core.Path.{refl}
-use Rattle.buffer.specs.Parts.{lines}
-use Rattle.results.specs.Standing.{outNotes}
 use Rattle.words.proofs.Chain.{gives}
 use Rattle.footer.proofs.Footing.{told-none, told-some}
 use Rattle.footer.proofs.said.Statement.{statement}
@@ -20,9 +18,7 @@ same-length-2 c = search needs
 returns : tie.Need-returns
 returns c =
     let after-all-within = c .before .before .before .before in
-    let after-if1 = after-all-within .before .before .before in
-    let start = after-if1 .before .before .before .before in
-    λ s. let a = start .args in gives refl (told-none (a .rows) (outNotes (lines (a .input .now))) (a .out) (start .pre) (after-if1 .if1 .taken)) (after-all-within .all-within .ensures)
+    λ s. gives refl (told-none _ _ (after-all-within .before .before .before .if1 .taken) (cc)) (after-all-within .all-within .ensures)
 
 named-requires : tie.Need-named-requires
 named-requires c κs = tt
@@ -36,9 +32,7 @@ same-length-4 c = search needs
 returns-2 : tie.Need-returns-2
 returns-2 c =
     let after-named = c .before .before .before .before in
-    let after-if1 = after-named .before .before .before in
-    let start = after-if1 .before .before .before .before in
-    λ s. let a = start .args in gives refl (told-some (a .rows) (outNotes (lines (a .input .now))) (a .out) (start .pre) (after-if1 .if1 .left)) (after-named .named .ensures s)
+    λ s. gives refl (told-some _ _ (after-named .before .before .before .if1 .left) (cc)) (after-named .named .ensures s)
 
 pub said-spec : {M : Type 1} → statement M
 said-spec =
