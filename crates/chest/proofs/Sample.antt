@@ -35,5 +35,9 @@ remark = 100 ∷ 117 ∷ 108 ∷ 108 ∷ []
 
 -- the row with its mark, the remark beside it or below it; then the block that names it
 sample : sheetDoc input ≡ append (annotated (union (append (append row (text (32 ∷ 32 ∷ remark) 6)) hardline) (append (append row (nest (append hardline (text remark 4)) 4 (wayOf 0))) hardline)) 1) (append (append hardline (headedDoc (text (65 ∷ []) 1))) hardline)
-unfolding input row remark sheetDoc linesDoc footerDoc toldDoc partDoc saysDoc rowDoc markedDoc endedDoc besideDoc belowDoc lowerDoc filledDoc fields right blanks trimmed togetherOn wordsOn concatDoc joinedDoc appendDoc groupDoc nestDoc textDoc separatedDoc intersperseDoc lines bodyEnd characters blank controls indexOf digits numberOf tenthsAdd tenthsOf labelOf cutsAt fieldsOf measured palletOf palletAt said parsed standing standingOf rowCount outNotes owed wellFormed ascii headedDoc blockDoc unionsDoc alternativeDoc headDoc tailDoc wrapsDoc coreDoc bareDoc
+unfolding input row remark sheetDoc linesDoc footerDoc toldDoc partDoc saysDoc rowDoc markedDoc endedDoc besideDoc belowDoc lowerDoc
+    filledDoc fields right blanks trimmed togetherOn wordsOn concatDoc joinedDoc appendDoc groupDoc nestDoc textDoc separatedDoc
+    intersperseDoc lines bodyEnd characters blank controls indexOf digits numberOf tenthsAdd tenthsOf labelOf cutsAt fieldsOf measured
+    palletOf palletAt said parsed standing standingOf rowCount outNotes owed wellFormed ascii headedDoc blockDoc unionsDoc alternativeDoc
+    headDoc tailDoc wrapsDoc coreDoc bareDoc
 sample = refl

@@ -1,5 +1,6 @@
 -- The laws of the whole sheet: its lines one after the other, over the shared nodes.
---     count-next, part-is, no-lines     the line at a place, and those after it
+--     count-next, no-lines      the line at a place, and those after it
+--     says-.., part-is         what a line adds, by what it says
 --     Lining, none-lined, one-lined, all-lined     the lines so far, with those to come
 --     begun, joined            what a caller has of an answer
 -- Assumes nothing.
@@ -8,7 +9,7 @@ use native.Mathlib.Omega.{arith}
 use mathlib.Core.Path.{_≡_, refl, sym, ap, _∙_, subst}
 use mathlib.Core.List.{List, [], _∷_, map}
 use lib.ListN.{length, take, drop}
-use Rattle.table.specs.Document.{Doc, nil}
+use Rattle.table.specs.Document.{Doc, nil, hardline}
 use Rattle.table.specs.declared.NodeNo.{NodeNo}
 use Rattle.build.specs.declared.Counts.{Counts}
 use Rattle.build.specs.declared.Made.{Made}
@@ -18,6 +19,12 @@ use Rattle.build.specs.Promise.{ValidSoFar}
 use Rattle.buffer.specs.Parts.{between, indexOf, lines, LineEnds, bodyEnd}
 use Rattle.buffer.proofs.Reading.{done, line-first}
 use Rattle.results.specs.Pallets.{parsed}
+use Rattle.results.specs.declared.Pallet.{Pallet}
+use Rattle.results.specs.declared.Fault.{Fault}
+use Rattle.results.specs.declared.Line.the-variants.{Empty, Heading, Row, Bad}
+use Rattle.words.specs.Widths.{width}
+use Rattle.words.specs.Documents.{filledDoc}
+use Rattle.row.specs.Documents.{rowDoc}
 use Rattle.words.specs.declared.Shared.{Shared}
 use Rattle.words.specs.declared.start.Start.{Start}
 use Rattle.words.specs.declared.start.Start.the-variants as start
@@ -40,6 +47,24 @@ module _ {s : List ℕ} {at end : ℕ} (l : LineEnds s at end) (h : at < length 
 
   pub count-next : length (lines (drop at s)) ≡ length (lines (drop (end + 1) s)) + 1
   count-next = ap length lines-next ∙ omega arith
+
+-- what is known of a line is what it says
+module _ (line : List ℕ) where
+  pub says-row : {p : Pallet} → Row p ≡ parsed line → rowDoc line p ≡ saysDoc line (parsed line)
+  unfolding saysDoc
+  says-row e = ap (saysDoc line) e
+
+  pub says-heading : {words : List ℕ} → words ≡ drop 1 line → Heading ≡ parsed line → appendDoc (filledDoc width words) hardline ≡ saysDoc line (parsed line)
+  unfolding saysDoc
+  says-heading is e = ap (λ (l : List ℕ). appendDoc (filledDoc width l) hardline) is ∙ ap (saysDoc line) e
+
+  pub says-empty : Empty ≡ parsed line → hardline ≡ saysDoc line (parsed line)
+  unfolding saysDoc
+  says-empty e = ap (saysDoc line) e
+
+  pub says-fault : {fault : Fault} → Bad fault ≡ parsed line → nil ≡ saysDoc line (parsed line)
+  unfolding saysDoc
+  says-fault e = ap (saysDoc line) e
 
 -- what a line says without its carriage return is what it adds
 pub part-is : (line : List ℕ) {n : ℕ} → n ≡ bodyEnd line → saysDoc (take n line) (parsed (take n line)) ≡ partDoc line
@@ -82,11 +107,12 @@ module _ {shared : Shared} {input : List ℕ} {at : ℕ} {c : Counts} {t x : Lis
         rest = sym (ap (λ (ls : List (List ℕ)). joinedDoc (l .said) (map partDoc ls)) (lines-next e h)) ∙ l .rest;
       }
 
-  pub all-lined : length input ≤ at → {line : ℕ} → line ≡ length (lines input) → Lined input shared c n line t x
+  pub all-lined : length input ≤ at → {line : ℕ} → line + length (lines (drop at input)) ≡ length (lines input) → Lined input shared c n line t x
   unfolding joinedDoc
-  all-lined h e =
+  all-lined h {line} e =
+      let none = ap length (no-lines input at h) in
       let d = sym (ap (λ (ls : List (List ℕ)). joinedDoc (l .said) (map partDoc ls)) (no-lines input at h)) ∙ l .rest in
-      record { valid = l .valid; shares = l .shares; is = subst (Is c t x n) d (l .is); count = e }
+      record { valid = l .valid; shares = l .shares; is = subst (Is c t x n) d (l .is); count = omega arith }
 
 -- ---- what a caller has of an answer
 

@@ -2,12 +2,12 @@
 use borrow.Author.Needs.{needs}
 use native.Mathlib.Omega.{arith}
 use Prim.Native.Nat.{_+_, _-_, _≤_}
-use mathlib.Core.Path.{_≡_, ap, _∙_}
+use mathlib.Core.Path.{_≡_}
 use lib.ListN.{length, drop}
 use Rattle.build.specs.Promise.{ValidSoFar}
 use Rattle.buffer.specs.Parts.{lines}
 use Rattle.words.specs.Build.{Shares}
-use Rattle.chest.proofs.Sheets.{count-next, no-lines, Lining, none-lined, one-lined, all-lined}
+use Rattle.chest.proofs.Sheets.{count-next, Lining, none-lined, one-lined, all-lined}
 use Rattle.chest.proofs.add_lines.Statement.{statement}
 use Rattle.chest.proofs.add_lines.Tie as tie
 
@@ -74,8 +74,7 @@ loop-again : tie.Need-loop-again Inv-loop μ-loop
 loop-again c =
     let added = c .before .before .before .before .before .before .before in
     let ended = added .before .before .before .before in
-    let L = ended .before .before .loop in
-    (
+    let L = ended .before .before .loop in (
       search needs,
       search needs,
       omega (arith, ended .line-end .ensures .ahead, L .inv .2),
@@ -90,9 +89,7 @@ same-length-4 : tie.Need-same-length-4 Inv-loop μ-loop
 same-length-4 c = search needs
 
 returns-2 : tie.Need-returns-2 Inv-loop μ-loop
-returns-2 c =
-    let L = c .before .loop in
-    λ v s. all-lined (L .inv .4 v s) (omega arith) (omega (arith, ap length (no-lines _ (L .at) (omega arith)), L .inv .3))
+returns-2 c = let L = c .before .loop in λ v s. all-lined (L .inv .4 v s) (omega arith) (L .inv .3)
 
 pub add-lines-spec : {M : Type 1} → statement M
 add-lines-spec =

@@ -11,8 +11,11 @@ share-requires c κs = tt
 enum-known-start : tie.Need-enum-known-start
 enum-known-start c = search needs
 
-enum-told : tie.Need-enum-told
-enum-told c = search needs
+enum-known-start-2 : tie.Need-enum-known-start-2
+enum-known-start-2 c = search needs
+
+whole-requires : tie.Need-whole-requires
+whole-requires c κs = tt
 
 same-length : tie.Need-same-length
 same-length c = search needs
@@ -22,9 +25,6 @@ same-length-2 c = search needs
 
 returns : tie.Need-returns
 returns c = search needs
-
-whole-requires : tie.Need-whole-requires
-whole-requires c κs = tt
 
 same-length-3 : tie.Need-same-length-3
 same-length-3 c = search needs
@@ -36,7 +36,7 @@ returns-2 : tie.Need-returns-2
 returns-2 c =
     let after-whole = c .before .before .before .before in
     let after-start = after-whole .before .before .before .before in
-    let s = begun _ _ (after-start .start .given .1) (after-start .before .before .before .before .before .before .share .ensures) in
+    let s = begun _ _ (after-start .start2 .given .1) (after-start .before .before .before .before .before .before .share .ensures .1) in
     after-whole .whole .ensures (s .0) (s .1)
 
 pub build-spec : {M : Type 1} → statement M
@@ -45,11 +45,11 @@ build-spec =
     (tie.spec
     share-requires
     enum-known-start
-    enum-told
+    enum-known-start-2
+    whole-requires
     same-length
     same-length-2
     returns
-    whole-requires
     same-length-3
     same-length-4
     returns-2)
