@@ -15,19 +15,19 @@ use borrow.Author.Tests.{le-leb, lt-leb, leb-true, ltb-false}
 use Rattle.choice.specs.Pick.{pick}
 use Rattle.buffer.specs.Utf8.{Range, to, within, tail, Start, start, follow, never, owed, wellFormed}
 use Rattle.choice.proofs.Tests.{and-true}
-use Rattle.pallets.specs.Lines.{indexOf, goesOn, characters, blank, controls}
-use Rattle.pallets.specs.Numbers.{numberOf, tenthsAdd, tenthsOf}
-use Rattle.pallets.specs.Numbers as numbers
-use Rattle.pallets.specs.Pallets.{separator, cutsAt, fieldsOf, between, measured, palletOf, palletAt, said, parsed}
-use Rattle.pallets.specs.declared.Pallet.{Pallet}
-use Rattle.pallets.specs.declared.Fault.{Fault}
-use Rattle.pallets.specs.declared.Fault.the-variants.{TooLong, NotUtf8, Control, NoForce, NoPluck, NoRemark, Note, Force, Pluck}
-use Rattle.pallets.specs.declared.Cuts.the-variants.{At, Missing}
-use Rattle.pallets.specs.declared.Line.{Line}
-use Rattle.pallets.specs.declared.Line.the-variants.{Empty, Heading, Row, Bad}
-use Rattle.pallets.specs.declared.numbers.Amount.{Amount}
-use Rattle.pallets.specs.declared.numbers.Amount.the-variants.{Is, NoNumber}
-use Rattle.pallets.proofs.Saying.{index-within}
+use Rattle.buffer.specs.Parts.{indexOf, goesOn, characters, blank, controls, between}
+use Rattle.results.specs.Numbers.{numberOf, tenthsAdd, tenthsOf}
+use Rattle.results.specs.Numbers as numbers
+use Rattle.results.specs.Pallets.{separator, cutsAt, fieldsOf, measured, palletOf, palletAt, said, parsed}
+use Rattle.results.specs.declared.Pallet.{Pallet}
+use Rattle.results.specs.declared.Fault.{Fault}
+use Rattle.results.specs.declared.Fault.the-variants.{TooLong, NotUtf8, Control, NoForce, NoPluck, NoRemark, Note, Force, Pluck}
+use Rattle.results.specs.declared.Cuts.the-variants.{At, Missing}
+use Rattle.results.specs.declared.Line.{Line}
+use Rattle.results.specs.declared.Line.the-variants.{Empty, Heading, Row, Bad}
+use Rattle.results.specs.declared.numbers.Amount.{Amount}
+use Rattle.results.specs.declared.numbers.Amount.the-variants.{Is, NoNumber}
+use Rattle.buffer.proofs.Reading.{index-within}
 use Rattle.row.specs.Fields.{field, right, fields}
 
 -- ---- characters
@@ -73,7 +73,10 @@ few-bytes (suc k) [] [] e = omega arith
 few-bytes (suc k) (r ∷ rs) [] e = omega arith
 few-bytes (suc k) [] (b ∷ bs) e = go (start b) refl (λ rs. few-bytes k rs bs) e
   where
-    go : (s : Start) → start b ≡ s → ((rs : List Range) → owed rs bs ≡ true → length (take k bs) ≤ length rs + 4 * characters (take k bs)) → elim s as (λ x. Bool) [ follow rs ↦ owed rs bs | never ↦ false ] ≡ true → suc (length (take k bs)) ≤ 0 + 4 * pick (goesOn b) (characters (take k bs)) (suc (characters (take k bs)))
+    go : (s : Start) → start b ≡ s
+        → ((rs : List Range) → owed rs bs ≡ true → length (take k bs) ≤ length rs + 4 * characters (take k bs))
+        → elim s as (λ x. Bool) [ follow rs ↦ owed rs bs | never ↦ false ] ≡ true
+        → suc (length (take k bs)) ≤ 0 + 4 * pick (goesOn b) (characters (take k bs)) (suc (characters (take k bs)))
     go (follow rs) w rest e = let f = starts b rs w in rw (f .1) (omega (arith, rest rs e, f .0))
     go never w rest e = let z : _≡_ {A = ℕ} 0 1 = cc in absurd (omega arith)
 few-bytes (suc k) (r ∷ rs) (b ∷ bs) e = go (goesOn b) (few-bytes k rs bs (and-true (within r b) (owed rs bs) e .1))

@@ -1,11 +1,11 @@
 // From a chest's test results to the printed strip, or a message that names the line and what is wrong. Nothing is printed of a sheet
 // that can't be laid out whole, and a write that fails is told.
 // In order: messages; printing; the whole run.
+use buffer::parts::front;
 use build::Why;
-use pallets::Fault;
-use pallets::bytes::front;
-use pallets::input::Checked;
-use rows::Built;
+use chest::Built;
+use results::Fault;
+use results::input::Checked;
 use rules::EVENT_WORDS;
 
 // Room for the most events that a call may have.
@@ -95,7 +95,7 @@ fn print_line(fd: i32, line: &[u8], marked: bool) -> bool {
 fn print_all(fd: i32, out: &[u8], events: &[u32]) -> bool {
     let mut at = 0;
     while at < out.len() {
-        let end = pallets::bytes::part_end(out, at, 10);
+        let end = buffer::parts::part_end(out, at, 10);
         if !print_line(fd, &out[at..end], marks::marked(events, at)) {
             return false;
         }
@@ -156,7 +156,7 @@ pub fn run(input: &[u8], print: i32, tell: i32) -> bool {
         io::write_all(tell, b"there is no input\n");
         return false;
     }
-    let checked = pallets::input::check(input);
+    let checked = results::input::check(input);
     if let Checked::FaultAt(line, fault) = checked {
         tell_line(tell, line);
         tell_fault(tell, fault);
@@ -164,7 +164,7 @@ pub fn run(input: &[u8], print: i32, tell: i32) -> bool {
     }
     let mut table = [0u32; 4096];
     let mut text = [0u8; 65536];
-    let built = rows::build(input, &mut table, &mut text);
+    let built = chest::build(input, &mut table, &mut text);
     match built {
         Built::Full(line, why) => {
             tell_line(tell, line);

@@ -1,5 +1,5 @@
 -- `strip::print_all` is safe and ends. Assumes nothing.
-use Rattle.pallets.proofs.Saying.{part-within}
+use Rattle.buffer.proofs.Reading.{part-within}
 use borrow.Author.Needs.{needs}
 use native.Mathlib.Omega.{arith}
 use Prim.Native.Nat.{_-_, _≤_}
@@ -27,9 +27,9 @@ part-print-line-start c = search needs
 
 part-print-line-end : tie.Need-part-print-line-end Inv-loop μ-loop
 part-print-line-end c =
-    let at2 = c .before .before in
-    let start = at2 .before .before .before in
-    omega (arith, part-within (start .args .out .now) (at2 .loop .at) 10 (omega arith), c .part-end .ensures)
+    let turn = c .before .before in
+    let start = turn .before .before .before in
+    omega (arith, part-within (start .args .out .now) (turn .loop .at) 10 (omega arith), c .part-end .ensures)
 
 marked-requires : tie.Need-marked-requires Inv-loop μ-loop
 marked-requires c κs = search needs
