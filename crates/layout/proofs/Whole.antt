@@ -22,8 +22,8 @@ use Rattle.table.proofs.Sound.{all-sound-of-check}
 use Rattle.rules.specs.Layout as rules
 use Rattle.rules.specs.Call.{Given, buffersRight, limits, refusal, call, wordsOf, eventWords}
 use Rattle.machine.proofs.Rules.{layout-is}
-use Rattle.lay.specs.State.{eventsOf}
-use Rattle.lay.proofs.Events.{length-events}
+use Rattle.page.specs.Reading.{eventsOf}
+use Rattle.page.proofs.Events.{length-events}
 use Rattle.render.specs.Visit.{Start}
 use Rattle.render.specs.Best.{Laid}
 use Rattle.render.specs.declared.End.{End}
@@ -129,13 +129,13 @@ module _ (l : Lent) (right : buffersRight (asks l) ≡ true) (sound : check (l .
       }
 
   pub run-decided : {r : End} {out′ noted′ : List ℕ} → Laid (l .table) (l .text) (l .out) (l .noted) (l .width) (l .limit) (nodes l) r out′ noted′
-      → Decided (asks l) (record { answer = r .answer; place = r .place; steps = l .limit - r .left; used = r .used; events = r .marks }) out′ noted′
+      → Decided (asks l) (record { answer = r .answer; place = r .place; steps = l .limit - r .left; used = r .used; events = r .events }) out′ noted′
   run-decided laid =
       let s = start-of in
       record {
         same = laid .same ∙ layout-is (l .table) (l .text) (limits (asks l)) (nodes l) (s .some) (s .small) (s .valid) (s .room) ∙ sym (call-run (asks l) right sound);
         used = laid .used;
-        events = laid .marks;
+        events = laid .events;
       }
 
 -- ---- the buffers

@@ -7,7 +7,7 @@ use mathlib.Core.List.{List, _++_}
 use lib.ListN.{length, take, replicate}
 use Rattle.rules.specs.Layout as rules
 use Rattle.rules.specs.Call.{Given, call, eventWords, wordsOf, padded}
-use Rattle.lay.specs.State.{eventsOf}
+use Rattle.page.specs.Reading.{eventsOf}
 use Rattle.layout.specs.declared.Report.{Report}
 
 -- ---- the routines that take no width

@@ -5,7 +5,8 @@ use Prim.Native.Nat.{ℕ, _-_, _/_, _≤_, _<_}
 use mathlib.Core.List.{List}
 use lib.ListN.{length, take, drop, replicate}
 use Rattle.rules.specs.Call.{Given, eventWords}
-use Rattle.rules.specs.Law.{Differ, document, ValidTable}
+use Rattle.rules.specs.Law.{Differ, document}
+use Rattle.table.specs.Valid.{Valid}
 use Rattle.layout.specs.declared.Report.{Report}
 use Rattle.layout.specs.Called.{Form}
 
@@ -46,8 +47,8 @@ pub record Sizes (width limit room size work : ℕ) : Type 0 where
 
 -- valid tables whose documents differ by one listed law at one place, at one width and over the same text
 pub record ByOneLaw (g h : Given) : Type 0 where
-  pub valid : ValidTable g
-  pub valid′ : ValidTable h
+  pub valid : Valid (g .table) (g .text)
+  pub valid′ : Valid (h .table) (h .text)
   pub differ : Differ (document g) (document h)
   pub width : g .width ≡ h .width
   pub text : g .text ≡ h .text

@@ -82,7 +82,7 @@ fn decide(
         place,
         steps: limit - end.left,
         used: end.used,
-        events: end.marks,
+        events: end.events,
     }
 }
 
