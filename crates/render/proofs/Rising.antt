@@ -101,9 +101,6 @@ module _ {ev₀ w : List ℕ} {s₀ : State} {ev : List ℕ} {s : State} (h : Ri
           empty = λ q e. go-is-not-done due _ q e;
         }
 
-    pub height-small : d < 1024
-    height-small = omega (arith, h .depth)
-
     -- a trial's arm is done: it is given up, or kept
     pub rise-give : (due : Due) (v : SavedWords) (q : State) → tagAt w d ≡ 1 → (s .past ≡ 0 → ⊥)
         → due ≡ dueAt w d → v ≡ savedWordsAt w d → q ≡ restoredOf (s .left) v d → TakenUp s₀ ev₀ w (Go q due) ev

@@ -9,6 +9,8 @@ use mathlib.Core.Path.{_∙_}
 use mathlib.Core.List.{_∷_}
 use Prim.Native.Nat.{_+_, _*_}
 use Rattle.render.proofs.best.Statement.{statement}
+use Rattle.render.proofs.best.Reads as reads
+use Rattle.render.proofs.best.Lts as lts
 use Rattle.render.proofs.best.Tie as tie
 
 abbrev Inv-loop : tie.InvT-loop
@@ -18,6 +20,13 @@ Inv-loop table text out₀ events₀ work₀ width limit nodes due₀ s₀ out e
 abbrev μ-loop : tie.MeasureT-loop
 μ-loop table text out₀ events₀ work₀ width limit nodes due₀ s₀ out events work due s =
     3 * s .left + weight (top due ∷ stackOf (s .depth) work)
+
+-- the turn, from where its answer is taken apart; the test of the steps left, from the turn
+abbrev turn-of : {claims : lts.Claims} → lts.After-slice-known6 claims reads.Pre reads.Post Inv-loop μ-loop → lts.After-turn claims reads.Pre reads.Post Inv-loop μ-loop
+turn-of answered = answered .before .before .before .before .before .before
+
+abbrev test-of : {claims : lts.Claims} → lts.After-turn claims reads.Pre reads.Post Inv-loop μ-loop → lts.Else1 claims reads.Pre reads.Post Inv-loop μ-loop
+test-of turned = turned .before .before .before .before .before
 
 sub-t18 : tie.Need-sub-t18 Inv-loop μ-loop
 sub-t18 c = omega (arith, c .before .before .before .before .before .pre .some)
@@ -50,15 +59,15 @@ enum-known-on c = search needs
 
 loop-less : tie.Need-loop-less Inv-loop μ-loop
 loop-less c =
-    let turned = c .before .before .before .before .before .before .before .before .before in
-    let tested = turned .before .before .before .before .before in
+    let turned = turn-of (c .before .before .before) in
+    let tested = test-of turned in
     let kept = turned .turn .kept .1 .1 in
     going-less (tested .before .before .loop .inv) (tested .if1 .left) (turned .turn .ensures) (kept .0) (kept .1 .0) (kept .1 .1 .0) (c .before .on .given .1)
 
 loop-again : tie.Need-loop-again Inv-loop μ-loop
 loop-again c =
-    let turned = c .before .before .before .before .before .before .before .before .before in
-    let tested = turned .before .before .before .before .before in
+    let turned = turn-of (c .before .before .before) in
+    let tested = test-of turned in
     let kept = turned .turn .kept .1 .1 in
     going-on (tested .before .before .loop .inv) (tested .if1 .left) (turned .turn .ensures) (kept .0) (kept .1 .0) (kept .1 .1 .0) (c .before .on .given .1)
 
@@ -67,31 +76,31 @@ enum-known-on-2 c = search needs
 
 cast-t33 : tie.Need-cast-t33 Inv-loop μ-loop
 cast-t33 c =
-    let turned = c .before .before .before .before .before .before .before .before .before .before in
-    let tested = turned .before .before .before .before .before in
+    let turned = turn-of (c .before .before .before .before) in
+    let tested = test-of turned in
     let kept = turned .turn .kept .1 .1 in
     omega (arith, done-small (tested .before .before .loop .inv) (tested .if1 .left) (turned .turn .ensures) (kept .0) (kept .1 .0) (kept .1 .1 .0) (c .before .before .on2 .given .1) .0)
 
 cast-t34 : tie.Need-cast-t34 Inv-loop μ-loop
 cast-t34 c =
-    let turned = c .before .before .before .before .before .before .before .before .before .before .before in
-    let tested = turned .before .before .before .before .before in
+    let turned = turn-of (c .before .before .before .before .before) in
+    let tested = test-of turned in
     let kept = turned .turn .kept .1 .1 in
     omega (arith, done-small (tested .before .before .loop .inv) (tested .if1 .left) (turned .turn .ensures) (kept .0) (kept .1 .0) (kept .1 .1 .0) (c .before .before .before .on2 .given .1) .1)
 
 same-length-4 : tie.Need-same-length-4 Inv-loop μ-loop
-same-length-4 c = let turned = c .before .before .before .before .before .before .before .before .before .before .before in turned .turn .kept .1 .1 .0 ∙ turned .before .before .before .before .before .before .before .loop .inv .outs
+same-length-4 c = let turned = turn-of (c .before .before .before .before .before) in turned .turn .kept .1 .1 .0 ∙ test-of turned .before .before .loop .inv .outs
 
 same-length-5 : tie.Need-same-length-5 Inv-loop μ-loop
-same-length-5 c = let turned = c .before .before .before .before .before .before .before .before .before .before .before in turned .turn .kept .1 .1 .1 .0 ∙ turned .before .before .before .before .before .before .before .loop .inv .evs
+same-length-5 c = let turned = turn-of (c .before .before .before .before .before) in turned .turn .kept .1 .1 .1 .0 ∙ test-of turned .before .before .loop .inv .evs
 
 same-length-6 : tie.Need-same-length-6 Inv-loop μ-loop
-same-length-6 c = let turned = c .before .before .before .before .before .before .before .before .before .before .before in turned .turn .kept .1 .1 .1 .1 .0 ∙ turned .before .before .before .before .before .before .before .loop .inv .works
+same-length-6 c = let turned = turn-of (c .before .before .before .before .before) in turned .turn .kept .1 .1 .1 .1 .0 ∙ test-of turned .before .before .loop .inv .works
 
 returns-2 : tie.Need-returns-2 Inv-loop μ-loop
 returns-2 c =
-    let turned = c .before .before .before .before .before .before .before .before .before .before .before in
-    let tested = turned .before .before .before .before .before in
+    let turned = turn-of (c .before .before .before .before .before) in
+    let tested = test-of turned in
     let kept = turned .turn .kept .1 .1 in
     laid-done (tested .before .before .loop .inv) (tested .if1 .left) (turned .turn .ensures) (kept .0) (kept .1 .0) (kept .1 .1 .0) (c .before .before .before .on2 .given .1)
 
@@ -99,18 +108,18 @@ enum-known-answer : tie.Need-enum-known-answer Inv-loop μ-loop
 enum-known-answer c = search needs
 
 same-length-7 : tie.Need-same-length-7 Inv-loop μ-loop
-same-length-7 c = let turned = c .before .before .before .before .before .before .before .before .before in turned .turn .kept .1 .1 .0 ∙ turned .before .before .before .before .before .before .before .loop .inv .outs
+same-length-7 c = let turned = turn-of (c .before .before .before) in turned .turn .kept .1 .1 .0 ∙ test-of turned .before .before .loop .inv .outs
 
 same-length-8 : tie.Need-same-length-8 Inv-loop μ-loop
-same-length-8 c = let turned = c .before .before .before .before .before .before .before .before .before in turned .turn .kept .1 .1 .1 .0 ∙ turned .before .before .before .before .before .before .before .loop .inv .evs
+same-length-8 c = let turned = turn-of (c .before .before .before) in turned .turn .kept .1 .1 .1 .0 ∙ test-of turned .before .before .loop .inv .evs
 
 same-length-9 : tie.Need-same-length-9 Inv-loop μ-loop
-same-length-9 c = let turned = c .before .before .before .before .before .before .before .before .before in turned .turn .kept .1 .1 .1 .1 .0 ∙ turned .before .before .before .before .before .before .before .loop .inv .works
+same-length-9 c = let turned = turn-of (c .before .before .before) in turned .turn .kept .1 .1 .1 .1 .0 ∙ test-of turned .before .before .loop .inv .works
 
 returns-3 : tie.Need-returns-3 Inv-loop μ-loop
 returns-3 c =
-    let turned = c .before .before .before .before .before .before .before .before .before in
-    let tested = turned .before .before .before .before .before in
+    let turned = turn-of (c .before .before .before) in
+    let tested = test-of turned in
     let kept = turned .turn .kept .1 .1 in
     laid-stop (tested .before .before .loop .inv) (tested .if1 .left) (turned .turn .ensures) (kept .0) (kept .1 .0) (kept .1 .1 .0) (c .before .answer .given .1)
 

@@ -6,7 +6,13 @@ use native.Mathlib.Omega.{arith}
 use mathlib.Core.Path.{refl}
 use borrow.Author.Needs.{needs}
 use Rattle.render.proofs.visit.Statement.{statement}
+use Rattle.render.proofs.visit.Reads as reads
+use Rattle.render.proofs.visit.Lts as lts
 use Rattle.render.proofs.visit.Tie as tie
+
+-- the function's start, from where its match is
+abbrev start : {claims : lts.Claims} → lts.After-mode claims reads.Pre reads.Post → lts.Start claims reads.Pre reads.Post
+start at-match = at-match .before .before .before .before .before .before .before .before .before .before
 
 cast-at : tie.Need-cast-at
 cast-at c = search needs
@@ -40,11 +46,11 @@ shared-slice-read-lay-append c = search needs
 
 lay-append-requires : tie.Need-lay-append-requires
 lay-append-requires c κs =
-    let ready = c .before .before .before .before .before .before .before .before .before .before .before .before .before .pre in
+    let ready = start (c .before .before .before) .pre in
     (depth-small ready, area-enough ready)
 
 lay-group-requires : tie.Need-lay-group-requires
-lay-group-requires c κs = group-fits (c .before .before .before .before .before .before .before .before .before .before .before .before .pre) (c .before .match .keys3)
+lay-group-requires c κs = group-fits (start (c .before .before) .pre) (c .before .match .keys3)
 
 child-of-requires : tie.Need-child-of-requires
 child-of-requires c κs = search needs
@@ -82,16 +88,16 @@ shared-slice-read-nest-by-2 c = search needs
 nest-by-requires : tie.Need-nest-by-requires
 nest-by-requires c κs =
     let matched = c .before .before in
-    nest-fits (matched .before .before .before .before .before .before .before .before .before .before .before .pre) (matched .match .keys5)
+    nest-fits (start (matched .before) .pre) (matched .match .keys5)
 
 nests-down-requires : tie.Need-nests-down-requires
 nests-down-requires c κs =
     let matched = c .before .before .before in
-    nest-held (matched .before .before .before .before .before .before .before .before .before .before .before .pre) _ (matched .match .keys5) (c .nest-by .ensures)
+    nest-held (start (matched .before) .pre) _ (matched .match .keys5) (c .nest-by .ensures)
 
 lay-hardline-requires : tie.Need-lay-hardline-requires
 lay-hardline-requires c κs =
-    let ready = c .before .before .before .before .before .before .before .before .before .before .before .before .before .pre in
+    let ready = start (c .before .before .before) .pre in
     ((omega (arith, depth-small ready), area-enough ready), (ready .within .bytes, ready .start .room))
 
 add-lay-text : tie.Need-add-lay-text
@@ -115,7 +121,7 @@ shared-slice-read-lay-text-2 c = search needs
 lay-text-requires : tie.Need-lay-text-requires
 lay-text-requires c κs =
     let matched = c .before .before .before in
-    text-fits (matched .before .before .before .before .before .before .before .before .before .before .before .pre) (matched .match .keys7)
+    text-fits (start (matched .before) .pre) (matched .match .keys7)
 
 add-lay-annotated : tie.Need-add-lay-annotated
 add-lay-annotated c = search needs
@@ -128,7 +134,7 @@ shared-slice-read-lay-annotated c = search needs
 
 lay-annotated-requires : tie.Need-lay-annotated-requires
 lay-annotated-requires c κs =
-    let ready = c .before .before .before .before .before .before .before .before .before .before .before .before .before .before .pre in
+    let ready = start (c .before .before .before .before) .pre in
     ((depth-small ready, area-enough ready), (ready .within .events, ready .start .slots, used-small ready))
 
 add-lay-union : tie.Need-add-lay-union
@@ -142,7 +148,7 @@ shared-slice-read-lay-union c = search needs
 
 lay-union-requires : tie.Need-lay-union-requires
 lay-union-requires c κs =
-    let ready = c .before .before .before .before .before .before .before .before .before .before .before .before .before .pre in
+    let ready = start (c .before .before .before) .pre in
     (depth-small ready, area-enough ready, used-small ready, events-small ready)
 
 to-indent-requires : tie.Need-to-indent-requires
@@ -150,11 +156,11 @@ to-indent-requires c κs = search needs
 
 lay-fail-requires : tie.Need-lay-fail-requires
 lay-fail-requires c κs =
-    let ready = c .before .before .before .before .before .before .before .before .before .before .before .before .pre in
+    let ready = start (c .before .before) .pre in
     (omega (arith, depth-small ready), area-enough ready)
 
 returns : tie.Need-returns
-returns c = visit-nil (c .before .before .before .before .before .before .before .before .before .before .before .pre) (c .match .keys1)
+returns c = visit-nil (start (c .before) .pre) (c .match .keys1)
 
 same-length : tie.Need-same-length
 same-length c = search needs
@@ -163,7 +169,7 @@ returns-2 : tie.Need-returns-2
 returns-2 c =
     let laid = c .before .before in
     let matched = laid .before .before .before in
-    visit-kept (matched .before .before .before .before .before .before .before .before .before .before .before .pre) 1 (matched .match .keys2) (laid .lay-append .ensures) (λ limit. refl)
+    visit-kept (start (matched .before) .pre) 1 (matched .match .keys2) (laid .lay-append .ensures) (λ limit. refl)
 
 same-length-2 : tie.Need-same-length-2
 same-length-2 c = search needs
@@ -172,24 +178,24 @@ returns-3 : tie.Need-returns-3
 returns-3 c =
     let laid = c .before .before in
     let matched = laid .before .before in
-    visit-kept (matched .before .before .before .before .before .before .before .before .before .before .before .pre) 2 (matched .match .keys3) (laid .lay-group .ensures) (λ limit. refl)
+    visit-kept (start (matched .before) .pre) 2 (matched .match .keys3) (laid .lay-group .ensures) (λ limit. refl)
 
 returns-4 : tie.Need-returns-4
 returns-4 c =
     let matched = c .before .before .before in
-    visit-broken (matched .before .before .before .before .before .before .before .before .before .before .before .pre) _ (matched .match .keys4) (c .before .if1 .taken) (c .child-of .ensures)
+    visit-broken (start (matched .before) .pre) _ (matched .match .keys4) (c .before .if1 .taken) (c .child-of .ensures)
 
 returns-5 : tie.Need-returns-5
 returns-5 c =
     let tested = c .before .before in
     let matched = tested .before .before in
-    visit-flat (matched .before .before .before .before .before .before .before .before .before .before .before .pre) _ (matched .match .keys4) (tested .if1 .left) (c .child-of2 .ensures)
+    visit-flat (start (matched .before) .pre) _ (matched .match .keys4) (tested .if1 .left) (c .child-of2 .ensures)
 
 returns-6 : tie.Need-returns-6
 returns-6 c =
     let nested = c .before .before in
     let matched = nested .before .before .before in
-    visit-nest (matched .before .before .before .before .before .before .before .before .before .before .before .pre) _ (matched .match .keys5) (nested .nest-by .ensures) _ (c .before .nests-down .ensures)
+    visit-nest (start (matched .before) .pre) _ (matched .match .keys5) (nested .nest-by .ensures) _ (c .before .nests-down .ensures)
 
 same-length-3 : tie.Need-same-length-3
 same-length-3 c = search needs
@@ -201,7 +207,7 @@ returns-7 : tie.Need-returns-7
 returns-7 c =
     let laid = c .before .before in
     let matched = laid .before .before .before in
-    visit-wrote (matched .before .before .before .before .before .before .before .before .before .before .before .pre) 5 (matched .match .keys6) (laid .lay-hardline .ensures) (λ limit. refl)
+    visit-wrote (start (matched .before) .pre) 5 (matched .match .keys6) (laid .lay-hardline .ensures) (λ limit. refl)
 
 same-length-5 : tie.Need-same-length-5
 same-length-5 c = search needs
@@ -210,7 +216,7 @@ returns-8 : tie.Need-returns-8
 returns-8 c =
     let laid = c .before .before in
     let matched = laid .before .before .before .before in
-    visit-wrote (matched .before .before .before .before .before .before .before .before .before .before .before .pre) 6 (matched .match .keys7) (laid .lay-text .ensures) (λ limit. refl)
+    visit-wrote (start (matched .before) .pre) 6 (matched .match .keys7) (laid .lay-text .ensures) (λ limit. refl)
 
 same-length-6 : tie.Need-same-length-6
 same-length-6 c = search needs
@@ -222,7 +228,7 @@ returns-9 : tie.Need-returns-9
 returns-9 c =
     let laid = c .before .before .before .before in
     let matched = laid .before .before .before .before in
-    visit-annotated (matched .before .before .before .before .before .before .before .before .before .before .before .pre) (matched .match .keys8) (laid .lay-annotated .ensures) (λ limit. refl)
+    visit-annotated (start (matched .before) .pre) (matched .match .keys8) (laid .lay-annotated .ensures) (λ limit. refl)
 
 same-length-8 : tie.Need-same-length-8
 same-length-8 c = search needs
@@ -231,12 +237,12 @@ returns-10 : tie.Need-returns-10
 returns-10 c =
     let laid = c .before .before in
     let matched = laid .before .before .before in
-    visit-kept (matched .before .before .before .before .before .before .before .before .before .before .before .pre) 8 (matched .match .keys9) (laid .lay-union .ensures) (λ limit. refl)
+    visit-kept (start (matched .before) .pre) 8 (matched .match .keys9) (laid .lay-union .ensures) (λ limit. refl)
 
 returns-11 : tie.Need-returns-11
 returns-11 c =
     let matched = c .before .before in
-    visit-align (matched .before .before .before .before .before .before .before .before .before .before .before .pre) _ (matched .match .keys10) (c .to-indent .ensures)
+    visit-align (start (matched .before) .pre) _ (matched .match .keys10) (c .to-indent .ensures)
 
 same-length-9 : tie.Need-same-length-9
 same-length-9 c = search needs
@@ -245,7 +251,7 @@ returns-12 : tie.Need-returns-12
 returns-12 c =
     let matched = c .before .before in
     let h = matched .match .rest in
-    visit-fail (matched .before .before .before .before .before .before .before .before .before .before .before .pre)
+    visit-fail (start (matched .before) .pre)
     (node-fail _ _
     (h .0 .0 .0 .0 .0 .0 .0 .0 .0 .1)
     (h .0 .0 .0 .0 .0 .0 .0 .0 .1)
