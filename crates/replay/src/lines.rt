@@ -1,4 +1,4 @@
-// Lists of numbers in lines of text, for the programs that replay what stands on standard input.
+// Lists of numbers in lines of text.
 //
 // A line has lists with `|` between; what is no digit separates numbers, and `7*40` stands for 40 times 7. Numbers are taken
 // modulo 2^32, and a list that is longer than the words lent for it is cut. In order: one number, one list, the line.

@@ -1,10 +1,12 @@
-// Replays the runs on standard input: each table is laid out, and how that ended is written. `rt` holds what is written to the
-// file stdout, which has what document 01's interpreter says of the same runs; compare/README.md tells how both files are made.
+// Runs: each table is laid out, and how that ended is written, as document 01's interpreter says it of the same run.
 //
 // A run is a line: the table's words in decimal, the text bytes in hexadecimal, width, limit, room and slots, and a name, with
 // `|` between. All buffers are soiled before the call. Written are answer, place and steps, the bytes used, the words of the
 // events used, how much of output, events and work is not zero and must be, and the name.
 ghost use Prim.Native.Nat.{_≤_};
+use crate::lines::narrow;
+use crate::lines::numbers;
+use crate::lines::past;
 use layout::Report;
 use libc::STDOUT_FILENO;
 use rules::EVENT_WORDS;
@@ -120,19 +122,19 @@ fn lay_out(table: &[u32], text: &[u8], width: u32, limit: u32, room: u32, slots:
     );
 }
 
-// Replays one line.
-fn replay(line: &[u8]) {
+// Replays one run.
+pub fn replay(line: &[u8]) {
     let mut words = [0u32; 4200];
-    let table = lines::numbers(line, 0, 10, &mut words);
+    let table = numbers(line, 0, 10, &mut words);
     let mut wide = [0u32; 65600];
-    let bytes = lines::numbers(line, lines::past(line, table.end), 16, &mut wide);
+    let bytes = numbers(line, past(line, table.end), 16, &mut wide);
     let mut text = [0u8; 65600];
     let mut sizes = [0u32; 4];
-    let asked = lines::numbers(line, lines::past(line, bytes.end), 10, &mut sizes);
+    let asked = numbers(line, past(line, bytes.end), 10, &mut sizes);
     let t = table.count;
     let n = bytes.count;
-    lines::narrow(&wide[..n], &mut text);
-    let name = lines::past(line, asked.end);
+    narrow(&wide[..n], &mut text);
+    let name = past(line, asked.end);
     lay_out(
         &words[..t],
         &text[..n],
@@ -142,27 +144,4 @@ fn replay(line: &[u8]) {
         sizes[3],
         &line[name..],
     );
-}
-
-// Replays every line but the empty ones and those that start with `#`.
-fn replay_all(input: &[u8]) {
-    let mut at = 0;
-    while at < input.len() {
-        let end = lines::line_end(input, at);
-        if at < end {
-            if input[at] != b'#' {
-                replay(&input[at..end]);
-            }
-        }
-        at = end;
-        if at < input.len() {
-            at += 1;
-        }
-    }
-}
-
-fn main() {
-    let mut space = [0u8; 262144];
-    let n = io::read_full(0, &mut space);
-    replay_all(&space[..n]);
 }

@@ -1,14 +1,14 @@
 -- Nothing is cut: 64 bytes have room for the fields of a line that is a row.
 --     few-bytes                a character has at most four bytes
 --     Sound, row-sound         what is known of a line that is a row
---     fields-fit               the room that they take
+--     fields-fit, row-bytes    the room that they take
 -- Assumes nothing.
 use Prim.Native.Nat.{ℕ, zero, suc, _+_, _-_, _*_, _≤_, _<_}
 use native.Mathlib.Omega.{arith}
-use mathlib.Core.Path.{_≡_, refl, ap, subst}
+use mathlib.Core.Path.{_≡_, refl, ap, _∙_, subst}
 use mathlib.Core.Bool.{Bool, true, false, _&&_, _||_}
 use mathlib.Core.List.{List, [], _∷_}
-use lib.ListN.{length, getD, take, drop, length-append, length-replicate}
+use lib.ListN.{length, getD, take, drop, replicate, length-append, length-replicate}
 use lib.Seq.{length-take-le, take-all}
 use lib.Dec.{eqb, leb, ltb}
 use borrow.Author.Tests.{le-leb, lt-leb, leb-true, ltb-false}
@@ -27,7 +27,9 @@ use Rattle.results.specs.declared.Line.{Line}
 use Rattle.results.specs.declared.Line.the-variants.{Empty, Heading, Row, Bad}
 use Rattle.results.specs.declared.numbers.Amount.{Amount}
 use Rattle.results.specs.declared.numbers.Amount.the-variants.{Is, NoNumber}
+use Rattle.buffer.specs.Placing.{Adds}
 use Rattle.buffer.proofs.Reading.{index-within}
+use Rattle.buffer.proofs.Placing.{written-at}
 use Rattle.row.specs.Fields.{field, right, fields}
 
 -- ---- characters
@@ -200,3 +202,7 @@ module _ {s : List ℕ} {p : Pallet} (sound : Sound s p) where
       let force = right-size (drop (p .force) s) 4 (32 ∷ 103 ∷ []) (sound .force) in
       let pluck = right-size (drop (p .pluck) s) 6 (32 ∷ 109 ∷ 109 ∷ []) (omega (arith, sound .pluck)) in
       take-all 64 (fields s p) (simp (length-append, length-replicate) (omega (arith, sound .note)))
+
+-- what is put of a row into 64 blanks is all of it
+pub row-bytes : (s : List ℕ) (p : Pallet) → parsed s ≡ Row p → {out : List ℕ} {r : ℕ} → Adds (replicate 64 32) 0 (fields s p) out r → {part : List ℕ} → part ≡ take r out → part ≡ fields s p
+row-bytes s p row {out} {r} adds is = is ∙ written-at 64 0 (fields s p) out r (omega arith) adds ∙ fields-fit (row-sound s p row)

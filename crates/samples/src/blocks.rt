@@ -105,7 +105,8 @@ fn sample(hard: bool, width: u32) {
     io::write_all(STDOUT_FILENO, b"\n\n");
 }
 
-fn main() {
+// All four.
+pub fn blocks() {
     sample(false, 35);
     sample(false, 34);
     sample(true, 34);

@@ -4,7 +4,8 @@ use build::Made;
 use libc::STDOUT_FILENO;
 use table::Column;
 
-fn main() {
+// Builds the three nodes, lays them out and writes them.
+pub fn example() {
     let mut table = [0u32; 64];
     let mut text = [0u8; 64];
     let c = Counts { nodes: 0, bytes: 0 };

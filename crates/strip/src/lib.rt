@@ -1,12 +1,15 @@
 // From a chest's test results to the printed strip, or a message that names the line and what is wrong. Nothing is printed of a sheet
 // that can't be laid out whole, and a write that fails is told.
-// In order: messages; printing; the whole run.
+// In order: messages; printing; the whole run. marks.rt: where a mark is open.
 use buffer::parts::front;
+use buffer::parts::line_end;
 use build::Why;
 use chest::Built;
 use results::Fault;
 use results::input::Checked;
 use rules::EVENT_WORDS;
+
+mod marks;
 
 // Room for the most events that a call may have.
 const EVENTS: usize = 4096 * EVENT_WORDS;
@@ -95,7 +98,7 @@ fn print_line(fd: i32, line: &[u8], marked: bool) -> bool {
 fn print_all(fd: i32, out: &[u8], events: &[u32]) -> bool {
     let mut at = 0;
     while at < out.len() {
-        let end = buffer::parts::part_end(out, at, 10);
+        let end = line_end(out, at);
         if !print_line(fd, &out[at..end], marks::marked(events, at)) {
             return false;
         }

@@ -35,15 +35,13 @@ returns c =
     let after-further = after-front .before .before in
     let after-missing = after-further .before .before in
     let after-part-end = after-missing .before in
-    let start = after-part-end .before .before .before .before in
-    let a = start .args in
     field-adds
-    (a .s .now)
-    (a .width)
-    (a .unit .now)
+    _
+    _
+    _
     (after-part-end .part-end .ensures)
     (after-missing .missing .ensures)
-    (start .pre)
+    (omega arith)
     (after-further .further .ensures)
     (after-front .front .ensures)
     (after-put .put .ensures)

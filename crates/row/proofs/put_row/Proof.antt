@@ -59,11 +59,9 @@ returns c =
     let after-columns = after-missing .before in
     let after-front = after-columns .before in
     let after-part-end = after-front .before in
-    let start = after-part-end .before .before .before in
-    let a = start .args in
     fields-add
-    (a .line .now)
-    (a .p)
+    _
+    _
     (after-part-end .part-end .ensures)
     (after-front .front .ensures)
     (after-columns .columns .ensures)

@@ -1,14 +1,11 @@
 -- `row::row` meets its contract. Assumes nothing.
 use borrow.Author.Needs.{needs}
-use native.Mathlib.Omega.{arith}
-use mathlib.Core.Path.{refl, ap, _∙_}
+use mathlib.Core.Path.{refl, ap}
 use Rattle.words.proofs.Chain.{new, shares-kept, after, refused, gives, annotates}
 use Rattle.words.specs.Documents.{leafDoc}
 use Rattle.row.specs.Documents.{rowDoc}
-use Rattle.buffer.proofs.Placing.{written-at}
 use Rattle.row.proofs.Columns.{marked-none, marked-some}
-use Rattle.row.specs.Fields.{fields}
-use Rattle.row.proofs.Uncut.{row-sound, fields-fit}
+use Rattle.row.proofs.Uncut.{row-sound, row-bytes}
 use Rattle.row.proofs.row.Statement.{statement}
 use Rattle.row.proofs.row.Tie as tie
 
@@ -45,8 +42,7 @@ returns c = λ s. refused (c .enum-told .given .1)
 ended-requires : tie.Need-ended-requires
 ended-requires c κs =
     let start = c .before .before .before .before .before .before .before .before .before .before .before .before .before .before .before .before .before .before .before .before in
-    let a = start .args in
-    row-sound (a .line .now) (a .p) (start .pre) .short
+    row-sound _ _ (start .pre) .short
 
 label-requires : tie.Need-label-requires
 label-requires c κs = tt
@@ -66,9 +62,8 @@ returns-2 c =
     let after-front = after-leaf .before in
     let after-put-row = after-front .before .before .before .before .before in
     let start = after-put-row .before .before .before .before .before in
+    let is = row-bytes _ _ (start .pre) (after-put-row .put-row .ensures) (after-front .front .ensures) in
     λ s.
-    let a = start .args in
-    let is = after-front .front .ensures ∙ written-at 64 0 (fields (a .line .now) (a .p)) _ (after-put-row .put-row .result) (omega arith) (after-put-row .put-row .ensures) ∙ fields-fit (row-sound (a .line .now) (a .p) (start .pre)) in
     gives
     refl
     (marked-none (c .before .label .result) _ (c .before .label .ensures) _ (c .if1 .taken))
@@ -111,9 +106,8 @@ returns-4 c =
     let after-front = after-leaf .before in
     let after-put-row = after-front .before .before .before .before .before in
     let start = after-put-row .before .before .before .before .before in
+    let is = row-bytes _ _ (start .pre) (after-put-row .put-row .ensures) (after-front .front .ensures) in
     λ s.
-    let a = start .args in
-    let is = after-front .front .ensures ∙ written-at 64 0 (fields (a .line .now) (a .p)) _ (after-put-row .put-row .result) (omega arith) (after-put-row .put-row .ensures) ∙ fields-fit (row-sound (a .line .now) (a .p) (start .pre)) in
     gives
     refl
     (marked-some (after-label .label .result) _ (after-label .label .ensures) _ (after-if1 .if1 .left))

@@ -6,7 +6,7 @@ use Rattle.row.proofs.remark.remarked.Statement.{statement}
 use Rattle.row.proofs.remark.remarked.Tie as tie
 
 beside-requires : tie.Need-beside-requires
-beside-requires c κs = c .before .before .before .before .before .pre
+beside-requires c κs = search needs
 
 enum-known-made : tie.Need-enum-known-made
 enum-known-made c = search needs
