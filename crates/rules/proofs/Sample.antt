@@ -1,6 +1,5 @@
 -- 150 random calls with the answers of the interpreter in compare/src/model.rs, computed here by the definitions.
 -- Made by `compare/run cases count=150 seed=1`; not edited by hand. Assumes nothing.
-use Prim.Native.Nat.{ℕ}
 use mathlib.Core.List.{List, [], _∷_}
 use lib.Dec.{T}
 use Rattle.rules.proofs.Case.{Case, case, every}

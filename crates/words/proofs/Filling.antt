@@ -15,11 +15,12 @@ use Rattle.build.specs.declared.Made.{Made}
 use Rattle.build.specs.declared.Made.the-variants.{Node}
 use Rattle.build.specs.Documents.{appendDoc, softlineDoc, joinedDoc, separatedDoc, intersperseDoc}
 use Rattle.words.specs.Documents.{leafDoc, filledDoc}
-use Rattle.words.specs.Words.{blanks, skipped, together, wordsOn}
+use Rattle.buffer.specs.Parts.{blanks, skipped}
+use Rattle.words.specs.Words.{together, wordsOn}
 use Rattle.words.specs.Build.{Is, Gives}
 use Rattle.words.proofs.Chain.{new, kept, after, given}
 use Rattle.words.proofs.Cutting.{words-next, no-words}
-use Rattle.pallets.proofs.Reading.{done}
+use Rattle.buffer.proofs.Reading.{done}
 
 -- a node, what comes next between, and the words to come
 unfoldable pub onDoc : Doc → Doc → Doc → List (List ℕ) → Doc
