@@ -1,6 +1,6 @@
 -- The laws of octets that the readers of text bytes lean on.
 --     owed-start, ascii-well           an octet that starts a character; bytes below 128 are well-formed
---     every-none, every-more, every-part, every-short, every-both    a test of every octet: of none; one octet more; a part of the text; the front of a part; two tests at once
+--     every-none, every-more, every-same, every-part, every-short, every-both    a test of every octet: of none; one octet more; one octet over and over; a part of the text; the front of a part; two tests at once
 --     plain-part, plain-short, plain-both     the same of plain octets; plain is below 128 and without a line feed
 --     start-same                       first octets between two bounds owe the same
 --     owed-first, owed-outside, owed-next, owed-end, owed-read, owed-low   one octet of what is owed; the end; an octet read; one below 128 read
@@ -62,6 +62,12 @@ module _ (f : ℕ → Bool) where
       ap (λ (p : Bool). every f (take i s) && p) (sym one)
       ∙ sym (every-append (take i s) (getD s i 0 ∷ []))
       ∙ ap (every f) (sym (take-suc s i 0 h) ∙ ap (λ (k : ℕ). take k s) (sym (add-one i)))
+
+  -- one octet, over and over
+  pub every-same : (b n : ℕ) → f b ≡ true → every f (replicate n b) ≡ true
+  unfolding every
+  every-same b zero e = refl
+  every-same b (suc n) e = true-and _ _ e (every-same b n e)
 
   every-take : (n : ℕ) (s : List ℕ) → every f s ≡ true → every f (take n s) ≡ true
   unfolding every

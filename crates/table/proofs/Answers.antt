@@ -2,7 +2,7 @@
 -- Assumes nothing.
 use Prim.Native.Nat.{ℕ, _+_, _*_, _≤_, _<_}
 use native.Mathlib.Omega.{arith}
-use mathlib.Core.Path.{_≡_, sym, ap, _∙_}
+use mathlib.Core.Path.{_≡_, refl, sym, ap, _∙_}
 use mathlib.Core.Bool.{Bool, true, false, _&&_}
 use mathlib.Core.List.{List}
 use lib.ListN.{length, getD, take, drop}
@@ -14,7 +14,7 @@ use Rattle.table.specs.declared.KindInfo.{KindInfo}
 use Rattle.buffer.specs.Utf8.{wellFormed, ascii, noFeed, plain}
 use Rattle.table.specs.Parts.{textFault}
 use Rattle.table.specs.Fault.{Fault, fault, unusedZero, childrenBelow, nestInRange, columnsRight, faultOf, faultAt}
-use Rattle.choice.proofs.Tests.{and-end, and-true}
+use Rattle.choice.proofs.Tests.{and-end, and-false, and-true}
 use Rattle.buffer.proofs.Octets.{plain-both}
 use Rattle.table.proofs.Accept.{part-length}
 use Rattle.table.proofs.KindRule.{append-entry, group-entry, text-entry}
@@ -26,16 +26,17 @@ module _ (bytes : List ℕ) (c : ℕ) where
   unfolding columnsRight
   columns-plain e = let p = and-true (ascii bytes) (noFeed bytes) (sym (plain-both bytes) ∙ e) in rw (p .0, p .1)
 
-  pub columns-fed : noFeed bytes ≡ false → false ≡ columnsRight bytes c
+  -- not plain: with no line feed, not all below 128
+  pub columns-wide : plain bytes ≡ false → wellFormed bytes && (noFeed bytes && leb c (length bytes)) ≡ columnsRight bytes c
   unfolding columnsRight
-  columns-fed e = rw e
+  columns-wide e = by (noFeed bytes) refl
+    where
+      high : noFeed bytes ≡ true → ascii bytes ≡ false
+      high f = sym (and-end (ascii bytes)) ∙ ap (λ (q : Bool). ascii bytes && q) (sym f) ∙ sym (plain-both bytes) ∙ e
 
-  -- not plain, and no line feed: not all below 128
-  pub columns-wide : plain bytes ≡ false → noFeed bytes ≡ true → wellFormed bytes && leb c (length bytes) ≡ columnsRight bytes c
-  unfolding columnsRight
-  columns-wide e f =
-      let high : ascii bytes ≡ false = sym (and-end (ascii bytes)) ∙ ap (λ (q : Bool). ascii bytes && q) (sym f) ∙ sym (plain-both bytes) ∙ e in
-      rw (f, high)
+      by : (q : Bool) → noFeed bytes ≡ q → wellFormed bytes && (q && leb c (length bytes)) ≡ q && pick (ascii bytes) (eqb c (length bytes)) (wellFormed bytes && leb c (length bytes))
+      by true f = rw (high f)
+      by false f = and-false (wellFormed bytes)
 
 -- ---- a Text
 

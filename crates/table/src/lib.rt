@@ -203,11 +203,8 @@ pub fn columns_right(bytes: &[u8], c: Column) -> bool
     if all_plain(bytes) {
         return columns == bytes.len();
     }
-    if !no_feed(bytes) {
-        return false;
-    }
     if well_formed(bytes) {
-        return columns <= bytes.len();
+        return no_feed(bytes) & (columns <= bytes.len());
     }
     false
 }
