@@ -5,6 +5,7 @@ use build::Made;
 use libc::STDOUT_FILENO;
 use table::Column;
 use table::Indent;
+use table::NodeNo;
 
 // A line, or a line end, and then the text.
 fn after_line(
@@ -26,6 +27,7 @@ fn after_line(
     c.append(table, text, line, word)
 }
 
+// A line end, or a line.
 fn broken(c: Counts, table: &mut [u32], text: &mut [u8], hard: bool) -> Made {
     if hard {
         return c.hardline(table, text);
@@ -33,7 +35,56 @@ fn broken(c: Counts, table: &mut [u32], text: &mut [u8], hard: bool) -> Made {
     c.line(table, text)
 }
 
-// The block: a body in braces under two binders. With `hard` the brace starts a line of its own.
+// The body, its closing brace, and the block of both under two binders and a brace.
+fn closed(
+    c: Counts,
+    table: &mut [u32],
+    text: &mut [u8],
+    outer: NodeNo,
+    inner: NodeNo,
+    brace: NodeNo,
+    none: NodeNo,
+) -> Made {
+    let made = after_line(c, table, text, b"result: x + y - z", 17, false);
+    let Made::Node(c, body) = made else {
+        return made;
+    };
+    let made = after_line(c, table, text, b"}", 1, false);
+    let Made::Node(c, close) = made else {
+        return made;
+    };
+    let prefixes = [outer.0, inner.0, brace.0];
+    let suffixes = [none.0, none.0, close.0];
+    let nests = [true, true, true];
+    let block = Block {
+        body: body,
+        amount: Indent(4),
+        way: 0,
+    };
+    block.format(c, table, text, &prefixes, &suffixes, &nests)
+}
+
+// The opening brace behind two binders, and what it opens. With `hard` the brace starts a line of its own.
+fn opened(
+    c: Counts,
+    table: &mut [u32],
+    text: &mut [u8],
+    outer: NodeNo,
+    inner: NodeNo,
+    hard: bool,
+) -> Made {
+    let made = after_line(c, table, text, b"{", 1, hard);
+    let Made::Node(c, brace) = made else {
+        return made;
+    };
+    let made = c.nil(table, text);
+    let Made::Node(c, none) = made else {
+        return made;
+    };
+    closed(c, table, text, outer, inner, brace, none)
+}
+
+// The block: a body in braces under two binders.
 fn built(table: &mut [u32], text: &mut [u8], hard: bool) -> Made {
     let c = Counts { nodes: 0, bytes: 0 };
     let made = c.text(table, text, b"\\x y ->", Column(7));
@@ -44,31 +95,7 @@ fn built(table: &mut [u32], text: &mut [u8], hard: bool) -> Made {
     let Made::Node(c, inner) = made else {
         return made;
     };
-    let made = after_line(c, table, text, b"{", 1, hard);
-    let Made::Node(c, open) = made else {
-        return made;
-    };
-    let made = after_line(c, table, text, b"result: x + y - z", 17, false);
-    let Made::Node(c, body) = made else {
-        return made;
-    };
-    let made = after_line(c, table, text, b"}", 1, false);
-    let Made::Node(c, close) = made else {
-        return made;
-    };
-    let made = c.nil(table, text);
-    let Made::Node(c, none) = made else {
-        return made;
-    };
-    let prefixes = [outer.0, inner.0, open.0];
-    let suffixes = [none.0, none.0, close.0];
-    let nests = [true, true, true];
-    let block = Block {
-        body: body,
-        amount: Indent(4),
-        way: 0,
-    };
-    block.format(c, table, text, &prefixes, &suffixes, &nests)
+    opened(c, table, text, outer, inner, hard)
 }
 
 // Builds the block, lays it out and writes it; what can't be built is said.

@@ -150,8 +150,8 @@ write-all-requires-2 c κs = search needs
 returns-8 : tie.Need-returns-8
 returns-8 c = search needs
 
-pub main-spec : {M : Type 1} → statement M
-main-spec =
+pub example-spec : {M : Type 1} → statement M
+example-spec =
     tie.close
     (tie.spec
     slice-aggregate-text
