@@ -72,7 +72,9 @@ module _ (base : ℕ) where
   read-times v n [] = sym (append-nil (replicate n v))
   read-times v n (b ∷ bs) = go (read-times v (further 10 n (digitOf b)) bs) (ltb (digitOf b) 10) refl
     where
-      go : listed base (times v (further 10 n (digitOf b))) bs ≡ replicate (valueOf 10 (further 10 n (digitOf b)) bs) v ++ listed base between (drop (digits 10 bs) bs) → (t : Bool) → ltb (digitOf b) 10 ≡ t → listed base (times v n) (b ∷ bs) ≡ replicate (valueOf 10 n (b ∷ bs)) v ++ listed base between (drop (digits 10 (b ∷ bs)) (b ∷ bs))
+      go : listed base (times v (further 10 n (digitOf b))) bs ≡ replicate (valueOf 10 (further 10 n (digitOf b)) bs) v ++ listed base between (drop (digits 10 bs) bs)
+          → (t : Bool) → ltb (digitOf b) 10 ≡ t
+          → listed base (times v n) (b ∷ bs) ≡ replicate (valueOf 10 n (b ∷ bs)) v ++ listed base between (drop (digits 10 (b ∷ bs)) (b ∷ bs))
       go on true e = rw e on
       go on false e = rw e refl
 
@@ -86,7 +88,9 @@ module _ (base : ℕ) where
   read-value v [] = refl
   read-value v (b ∷ bs) = go (read-value (further base v (digitOf b)) bs) (ltb (digitOf b) base) refl
     where
-      go : listed base (value (further base v (digitOf b))) bs ≡ ended (valueOf base (further base v (digitOf b)) bs) (drop (digits base bs) bs) → (t : Bool) → ltb (digitOf b) base ≡ t → listed base (value v) (b ∷ bs) ≡ ended (valueOf base v (b ∷ bs)) (drop (digits base (b ∷ bs)) (b ∷ bs))
+      go : listed base (value (further base v (digitOf b))) bs ≡ ended (valueOf base (further base v (digitOf b)) bs) (drop (digits base bs) bs)
+          → (t : Bool) → ltb (digitOf b) base ≡ t
+          → listed base (value v) (b ∷ bs) ≡ ended (valueOf base v (b ∷ bs)) (drop (digits base (b ∷ bs)) (b ∷ bs))
       go on true e = rw e on
       go on false e =
           let other : listed base between bs ≡ listed base between (b ∷ bs) = rw e refl in

@@ -5,16 +5,15 @@
 --     said-is                       a line that is a pallet's
 --     verdict-of, check-line, rest-none   one line of an input; none
 -- Assumes nothing.
-use Prim.Native.Nat.{ℕ, suc, _+_, _-_, _≤_, _<_}
+use Prim.Native.Nat.{ℕ, _+_, _-_, _≤_, _<_}
 use native.Mathlib.Omega.{arith}
 use mathlib.Core.Path.{_≡_, refl, ap, _∙_}
-use mathlib.Core.Bool.{Bool, true, false, _&&_, _||_}
-use mathlib.Core.List.{List, [], _∷_}
+use mathlib.Core.Bool.{true, false, _||_}
+use mathlib.Core.List.{List}
 use lib.ListN.{length, getD, take, drop, length-drop}
 use lib.Seq.{take-all}
-use lib.Dec.{eqb, ltb}
+use lib.Dec.{eqb}
 use borrow.Author.Tests.{le-leb, lt-leb, ne-eqb}
-use Rattle.choice.specs.Pick.{pick}
 use Rattle.buffer.specs.Parts.{between, indexOf, lines, LineEnds, bodyEnd, characters, blank}
 use Rattle.buffer.proofs.Reading.{done, line-first}
 use Rattle.results.specs.Numbers.{numberOf, tenthsAdd, tenthsOf}

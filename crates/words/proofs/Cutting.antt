@@ -4,16 +4,15 @@
 -- Assumes nothing.
 use Prim.Native.Nat.{ℕ, zero, suc, _+_, _-_, _≤_, _<_}
 use native.Mathlib.Omega.{arith}
-use native.Mathlib.Numerals.{add-one}
 use mathlib.Core.Path.{_≡_, refl, sym, ap, _∙_}
-use mathlib.Core.Bool.{Bool, true, false, not, _&&_, _||_}
-use mathlib.Core.List.{List, [], _∷_, _++_}
+use mathlib.Core.Bool.{Bool, true, false}
+use mathlib.Core.List.{List, [], _∷_}
 use lib.ListN.{length, getD, take, drop, length-drop}
-use lib.Seq.{take-all, take-suc, drop-drop, length-take-le}
+use lib.Seq.{drop-drop}
 use lib.Dec.{eqb, ltb}
-use borrow.Author.Tests.{eq-eqb, ne-eqb, le-leb, lt-leb, lt-ltb, le-ltb, ltb-true, ltb-false}
+use borrow.Author.Tests.{lt-ltb, le-ltb}
 use Rattle.choice.specs.Pick.{pick}
-use Rattle.buffer.specs.Parts.{goesOn, blanks, skipped, trimmed}
+use Rattle.buffer.specs.Parts.{goesOn, blanks, skipped}
 use Rattle.buffer.proofs.Reading.{more, done}
 use Rattle.words.specs.Words.{ends, togetherOn, together, wordsOn}
 

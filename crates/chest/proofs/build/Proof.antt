@@ -1,5 +1,4 @@
 -- `chest::build` meets its contract. Assumes nothing.
-use mathlib.Core.Path.{_∙_}
 use borrow.Author.Needs.{needs}
 use Rattle.chest.proofs.Sheets.{begun}
 use Rattle.chest.proofs.build.Statement.{statement}

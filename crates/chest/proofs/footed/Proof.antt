@@ -1,5 +1,4 @@
 -- `chest::footed` meets its contract. Assumes nothing.
-use mathlib.Core.Path.{_∙_}
 use borrow.Author.Needs.{needs}
 use Rattle.words.proofs.Chain.{new, kept, after, refused, appends}
 use Rattle.chest.proofs.footed.Statement.{statement}

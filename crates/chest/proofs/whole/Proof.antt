@@ -1,5 +1,4 @@
 -- `chest::whole` meets its contract. Assumes nothing.
-use mathlib.Core.Path.{_∙_}
 use borrow.Author.Needs.{needs}
 use Rattle.words.proofs.Chain.{new}
 use Rattle.chest.specs.Documents.{sheetDoc}

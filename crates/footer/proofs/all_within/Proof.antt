@@ -61,9 +61,7 @@ slice-aggregate-put-5 : tie.Need-slice-aggregate-put-5
 slice-aggregate-put-5 c = search needs
 
 put-requires-3 : tie.Need-put-requires-3
-put-requires-3 c κs =
-    let after-put2 = c .before .before .before in
-    placed-length (after-put2 .put2 .ensures) (put-requires-2 (after-put2 .before) κs) .1
+put-requires-3 c κs = placed-length (c .before .before .before .put2 .ensures) (search needs) .1
 
 slice-aggregate-front : tie.Need-slice-aggregate-front
 slice-aggregate-front c = search needs

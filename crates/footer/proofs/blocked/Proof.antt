@@ -1,6 +1,6 @@
 -- `footer::blocked` meets its contract. Assumes nothing.
 use borrow.Author.Needs.{needs}
-use mathlib.Core.Path.{refl, _∙_}
+use mathlib.Core.Path.{refl}
 use Rattle.words.proofs.Chain.{new, kept, after, refused, appends}
 use Rattle.footer.proofs.Footing.{blocks}
 use Rattle.footer.specs.Documents.{headedDoc}

@@ -1,7 +1,6 @@
 -- `footer::footer` meets its contract. Assumes nothing.
 use borrow.Author.Needs.{needs}
-use mathlib.Core.Path.{refl, _∙_}
-use Rattle.buffer.specs.Parts.{lines}
+use mathlib.Core.Path.{refl}
 use Rattle.words.proofs.Chain.{new, kept, after, refused, given, gives, joins}
 use Rattle.footer.proofs.Footing.{footer-none, footer-some}
 use Rattle.footer.proofs.footer.Statement.{statement}

@@ -1,5 +1,4 @@
 -- `footer::named` meets its contract. Assumes nothing.
-use mathlib.Core.Path.{_∙_}
 use borrow.Author.Needs.{needs}
 use Rattle.words.proofs.Chain.{new, kept, shares-kept, after, refused}
 use Rattle.footer.proofs.named.Statement.{statement}

@@ -1,7 +1,5 @@
 -- `words::add_word` meets its contract. Assumes nothing.
-use mathlib.Core.Path.{refl, _∙_}
 use borrow.Author.Needs.{needs}
-use native.Mathlib.Omega.{arith}
 use Rattle.words.proofs.Chain.{new, kept, after, refused, appends}
 use Rattle.words.proofs.add_word.Statement.{statement}
 use Rattle.words.proofs.add_word.Tie as tie

@@ -54,8 +54,8 @@ slice-aggregate-lay-out c = sym (length-take-le _ _ (omega arith))
 array-share-prefix-text : tie.Need-array-share-prefix-text
 array-share-prefix-text c =
     let after-text2 = c .before .before in
-    let earlier = after-text2 .before .before .before .before in
-    omega (arith, array-share-prefix-wide (earlier), after-text2 .text2 .given, earlier .before .before .before .before .wide2 .given)
+    let narrowed = after-text2 .before .before .before .before in
+    omega (arith, array-share-prefix-wide (narrowed), after-text2 .text2 .given, narrowed .before .before .before .before .wide2 .given)
 
 slice-aggregate-lay-out-2 : tie.Need-slice-aggregate-lay-out-2
 slice-aggregate-lay-out-2 c = sym (length-take-le _ _ (omega arith))

@@ -1,5 +1,4 @@
 -- `row::remark::below` meets its contract. Assumes nothing.
-use mathlib.Core.Path.{_∙_}
 use borrow.Author.Needs.{needs}
 use Rattle.words.proofs.Chain.{new, kept, after, refused, joins}
 use Rattle.row.specs.Remark.{belowDoc}

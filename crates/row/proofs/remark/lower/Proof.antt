@@ -1,5 +1,4 @@
 -- `row::remark::lower` meets its contract. Assumes nothing.
-use mathlib.Core.Path.{_∙_}
 use borrow.Author.Needs.{needs}
 use Rattle.words.proofs.Chain.{new, kept, after, refused, nests, appends}
 use Rattle.row.specs.Remark.{lowerDoc}

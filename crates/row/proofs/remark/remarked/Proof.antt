@@ -1,5 +1,4 @@
 -- `row::remark::remarked` meets its contract. Assumes nothing.
-use mathlib.Core.Path.{_∙_}
 use borrow.Author.Needs.{needs}
 use Rattle.words.proofs.Chain.{new, kept, shares-kept, after, refused, unites}
 use Rattle.row.proofs.remark.remarked.Statement.{statement}
