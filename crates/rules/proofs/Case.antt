@@ -10,7 +10,7 @@ use mathlib.Core.List.{List, [], _∷_}
 use lib.Dec.{eqb}
 use Rattle.table.specs.Node.{adds, subtracts, Node, nil, append, group, flatAlt, nest, hardline, text, annotated, union, align, fail, nodeAt}
 use Rattle.table.specs.Kinds.{kinds, kindAt}
-use Rattle.buffer.specs.Utf8.{owed, wellFormed, ascii}
+use Rattle.buffer.specs.Utf8.{owed, wellFormed, every as every-octet, ascii, noFeed}
 use Rattle.table.specs.Fault.{columnsRight, faultOf, faultAt, firstFault, check}
 use Rattle.table.specs.Unfold.{treeOver, trees, tree}
 use Rattle.rules.specs.Layout.{Report, visit, fit, rest, put, event, lay, layout}
@@ -50,7 +50,7 @@ pub record Case : Type 0 where
   pub bytes : List ℕ
   pub events : List ℕ
 
--- one written by a program: table, text, width, step limit, bytes of output, event records; then what it answers
+-- one as a program writes it (Sample.antt): table, text, width, step limit, bytes of output, event records; then what it answers
 unfoldable pub case : List ℕ → List ℕ → ℕ → ℕ → ℕ → ℕ → ℕ → ℕ → ℕ → List ℕ → List ℕ → Case
 case table bytes width limit room slots answer place steps out events =
     record {
@@ -106,7 +106,7 @@ meets r c =
 
 -- the call, computed
 unfoldable pub computed : Given → Report
-unfolding call check firstFault faultAt faultOf columnsRight wellFormed owed ascii kindAt kinds tree trees treeOver nodeAt layout lay visit put event fit rest
+unfolding call check firstFault faultAt faultOf columnsRight wellFormed owed ascii noFeed every-octet kindAt kinds tree trees treeOver nodeAt layout lay visit put event fit rest
 computed g = call g
 
 unfoldable pub every : List Case → Bool

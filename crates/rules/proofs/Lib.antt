@@ -17,6 +17,8 @@ mod NotLaws
 pub mod Bounds
 pub mod Answers
 pub mod Cleared
+-- every line feed in the output is a Hardline's
+pub mod Feeds
 -- like trees run alike
 pub mod Like
 -- random calls, with the answers of the interpreter in compare

@@ -2,3 +2,4 @@
 pub mod Layout
 pub mod Call
 pub mod Law
+pub mod Pieces
