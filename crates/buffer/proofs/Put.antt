@@ -7,7 +7,7 @@
 --     copy-more                        a part of another list: a store more
 --     put-one, put-put, put-cons       a single store; a run put behind a run, and behind a single store
 --     part-put, copied-over            the front up to a part of what is put; the same of a part of another list
---     put-same, fill-run, fill-kept    what stands already; a run more filled, or found full
+--     put-same, fill-run, fill-part, fill-kept    what stands already; a run more filled, or found full
 --     zero-more, zero-all              all 0: one element more; then it is filled with 0
 --     block-filled, block-clean, word-cleared, all-cleared    a loop that clears by blocks: a block filled or found clean, a word, the end
 -- Assumes nothing.

@@ -50,18 +50,6 @@ pub fn clear_words(words: &mut [u32])
     zero_words_from(words, 0);
 }
 
-// n times the byte v from `at` on.
-pub fn fill_bytes(dst: &mut [u8], at: usize, n: usize, v: u8)
-    requires { ⌜ at + n ≤ length (now dst) ⌝ }
-    ensures { λ _. ⌜ now (dst .exit) ≡ put (now (dst .entry)) at (replicate n v) ⌝ }
-{
-    let mut i = 0;
-    while i < n {
-        dst[at + i] = v;
-        i += 1;
-    }
-}
-
 // n times the word v from `at` on.
 pub fn fill_words(words: &mut [u32], at: usize, n: usize, v: u32)
     requires { ⌜ at + n ≤ length (now words) ⌝ }
