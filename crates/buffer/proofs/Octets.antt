@@ -1,7 +1,7 @@
 -- The laws of octets that the readers of text bytes lean on.
 --     owed-start, ascii-well           an octet that starts a character; bytes below 128 are well-formed
---     every-none, every-more, every-same, every-part, every-short, every-both    a test of every octet: of none; one octet more; one octet over and over; a part of the text; the front of a part; two tests at once
---     plain-part, plain-short, plain-both     the same of plain octets; plain is below 128 and without a line feed
+--     every-none, every-more, every-same, every-part, every-short    a test of every octet: of none; one more; one over and over; a part; the front of a part
+--     ascii-part, ascii-short, unfed-part    the same of octets below 128, and without a line feed
 --     start-same                       first octets between two bounds owe the same
 --     owed-first, owed-outside, owed-next, owed-end, owed-read, owed-low   one octet of what is owed; the end; an octet read; one below 128 read
 -- Assumes nothing.
@@ -15,7 +15,7 @@ use lib.ListN.{length, getD, take, drop, replicate}
 use lib.Seq.{take-suc, take-take, drop-cons}
 use lib.Dec.{eqb, ltb, leb, eqb·suc-zero}
 use borrow.Author.Tests.{ltb-true, leb-true, le-leb, lt-leb}
-use Rattle.buffer.specs.Utf8.{Range, to, within, tail, Start, start, follow, never, owed, wellFormed, every, ascii, noFeed, plain}
+use Rattle.buffer.specs.Utf8.{Range, to, within, tail, Start, start, follow, never, owed, wellFormed, every, ascii, noFeed}
 use Rattle.buffer.specs.Reader.{owing, ranges, starts, goesOn, GoesOn}
 use Rattle.buffer.specs.declared.utf8.Owing.{Owing}
 use Rattle.buffer.specs.declared.utf8.Next.{Next}
@@ -89,32 +89,18 @@ module _ (f : ℕ → Bool) where
   pub every-short : (s : List ℕ) (n m : ℕ) → n ≤ m → every f (take m s) ≡ true → every f (take n s) ≡ true
   every-short s n m h e = ap (every f) (sym (take-take n m s h)) ∙ every-take n (take m s) e
 
--- two tests at once
-pub every-both : (f g : ℕ → Bool) (s : List ℕ) → every (λ b. f b && g b) s ≡ every f s && every g s
-unfolding every
-every-both f g [] = refl
-every-both f g (b ∷ s) = ap (λ (p : Bool). (f b && g b) && p) (every-both f g s) ∙ and-swap (f b) (g b) (every f s) (every g s)
-  where
-    and-swap : (p q r s : Bool) → (p && q) && (r && s) ≡ (p && r) && (q && s)
-    and-swap true true r s = refl
-    and-swap true false true s = refl
-    and-swap true false false s = refl
-    and-swap false q r s = refl
+-- the same of octets below 128, and without a line feed
+pub ascii-part : (s : List ℕ) (o l : ℕ) → ascii s ≡ true → ascii (take l (drop o s)) ≡ true
+unfolding ascii
+ascii-part s o l e = every-part (λ b. ltb b 128) s o l e
 
--- all of the text is plain: so is every part of it
-pub plain-part : (s : List ℕ) (o l : ℕ) → plain s ≡ true → plain (take l (drop o s)) ≡ true
-unfolding plain
-plain-part s o l e = every-part (λ b. ltb b 128 && not (eqb b 10)) s o l e
+pub ascii-short : (s : List ℕ) (n m : ℕ) → n ≤ m → ascii (take m s) ≡ true → ascii (take n s) ≡ true
+unfolding ascii
+ascii-short s n m h e = every-short (λ b. ltb b 128) s n m h e
 
--- the front of what is plain
-pub plain-short : (s : List ℕ) (n m : ℕ) → n ≤ m → plain (take m s) ≡ true → plain (take n s) ≡ true
-unfolding plain
-plain-short s n m h e = every-short (λ b. ltb b 128 && not (eqb b 10)) s n m h e
-
--- plain is below 128 and without a line feed
-pub plain-both : (s : List ℕ) → plain s ≡ ascii s && noFeed s
-unfolding plain ascii noFeed
-plain-both s = every-both (λ b. ltb b 128) (λ b. not (eqb b 10)) s
+pub unfed-part : (s : List ℕ) (o l : ℕ) → noFeed s ≡ true → noFeed (take l (drop o s)) ≡ true
+unfolding noFeed
+unfed-part s o l e = every-part (λ b. not (eqb b 10)) s o l e
 
 -- ---- first octets
 

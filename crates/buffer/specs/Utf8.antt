@@ -1,4 +1,4 @@
--- Well-formed UTF-8 by RFC 3629, section 4: the octets that may follow each first octet. Then tests of every octet: below 128, no line feed, both.
+-- Well-formed UTF-8 by RFC 3629, section 4: the octets that may follow each first octet. Then tests of every octet: below 128, no line feed.
 use Prim.Native.Nat.{ℕ}
 use mathlib.Core.Bool.{Bool, true, false, not, _&&_}
 use mathlib.Core.List.{List, [], _∷_}
@@ -61,7 +61,3 @@ ascii bs = every (λ b. ltb b 128) bs
 -- no line feed among them
 unfoldable pub noFeed : List ℕ → Bool
 noFeed bs = every (λ b. not (eqb b 10)) bs
-
--- both of every octet: it is below 128, and no line feed
-unfoldable pub plain : List ℕ → Bool
-plain bs = every (λ b. ltb b 128 && not (eqb b 10)) bs

@@ -38,9 +38,13 @@ nestInRange k b c = not (eqb k 4) || (leb b 1000 && leb c 1)
 abbrev pub rangeInside : List ℕ → ℕ → ℕ → ℕ → Bool
 rangeInside text k a b = not (eqb k 6) || leb (a + b) (length text)
 
--- no byte 10; all bytes below 128: columns equal length; otherwise well-formed, and columns at most length
+-- all bytes below 128: columns equal length; otherwise well-formed, and columns at most length
+abbrev pub columnsFit : List ℕ → ℕ → Bool
+columnsFit bytes c = pick (ascii bytes) (eqb c (length bytes)) (wellFormed bytes && leb c (length bytes))
+
+-- the same, and no byte 10
 unfoldable pub columnsRight : List ℕ → ℕ → Bool
-columnsRight bytes c = noFeed bytes && pick (ascii bytes) (eqb c (length bytes)) (wellFormed bytes && leb c (length bytes))
+columnsRight bytes c = noFeed bytes && columnsFit bytes c
 
 abbrev pub textRight : List ℕ → ℕ → ℕ → ℕ → ℕ → Bool
 textRight text k a b c = not (eqb k 6) || columnsRight (take b (drop a text)) c

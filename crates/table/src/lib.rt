@@ -4,15 +4,15 @@
 ghost use mathlib.Core.Path.{_≡_};
 ghost use mathlib.Core.Bool.{true};
 ghost use mathlib.Core.List.{List};
-ghost use Prim.Native.Nat.{ℕ, _/_, _≤_, _<_};
-ghost use lib.ListN.{length};
+ghost use Prim.Native.Nat.{ℕ, _+_, _/_, _≤_, _<_};
+ghost use lib.ListN.{length, take, drop};
 ghost use Rattle.table.specs.Kinds.{kinds, kindAt};
-ghost use Rattle.buffer.specs.Utf8.{plain as plainBytes};
-ghost use Rattle.table.specs.Parts.{Tells, textFault};
-ghost use Rattle.table.specs.Fault.{unusedZero, childrenBelow, nestInRange, columnsRight, faultOf, firstFault, sizesRight, check};
-use buffer::utf8::all_plain;
+ghost use Rattle.buffer.specs.Utf8.{noFeed};
+ghost use Rattle.table.specs.Parts.{Tells, Saw, textFault};
+ghost use Rattle.table.specs.Fault.{unusedZero, childrenBelow, nestInRange, columnsFit, columnsRight, faultOf, firstFault, sizesRight, check};
+use buffer::utf8::below_128;
 use buffer::utf8::no_feed;
-use buffer::utf8::plain_at_once;
+use buffer::utf8::plainly_below_128;
 use buffer::utf8::well_formed;
 
 // The kinds by name, with document 01's numbers.
@@ -194,24 +194,50 @@ fn nest_in_range(k: u32, b: u32, c: u32) -> bool
     (b <= 1000) & (c <= 1)
 }
 
-// Whether the columns of a Text with these bytes are right, and the bytes well-formed and without a line feed. Bytes that are not plain and
-// have no line feed are not all below 128.
-pub fn columns_right(bytes: &[u8], c: Column) -> bool
-    ensures { λ r. ⌜ r ≡ columnsRight (now (bytes .entry)) (c .0) ⌝ }
+// Whether the columns of a Text with these bytes are right, and the bytes well-formed.
+fn columns_fit(bytes: &[u8], c: Column) -> bool
+    ensures { λ r. ⌜ r ≡ columnsFit (now (bytes .entry)) (c .0) ⌝ }
 {
     let columns = c.0 as usize;
-    if all_plain(bytes) {
+    if below_128(bytes) {
         return columns == bytes.len();
     }
     if well_formed(bytes) {
-        return no_feed(bytes) & (columns <= bytes.len());
+        return columns <= bytes.len();
     }
     false
 }
 
+// The same, and no line feed among the bytes.
+pub fn columns_right(bytes: &[u8], c: Column) -> bool
+    ensures { λ r. ⌜ r ≡ columnsRight (now (bytes .entry)) (c .0) ⌝ }
+{
+    let fit = columns_fit(bytes, c);
+    no_feed(bytes) & fit
+}
+
+// What is seen of all of the text at once: whether it is below 128, and whether it has no line feed. Mostly it has none, and then no Text
+// is looked through for one.
+struct Seen {
+    low: bool,
+    unfed: bool,
+}
+
+// Whether a part of the text has no line feed.
+fn part_unfed(text: &[u8], unfed: bool, at: usize, n: usize) -> bool
+    requires { ⌜ (unfed ≡ noFeed (now text)) × (at + n ≤ length (now text)) ⌝ }
+    ensures { λ r. ⌜ r ≡ noFeed (take n (drop at (now (text .entry)))) ⌝ }
+{
+    if unfed {
+        return true;
+    }
+    let end = at + n;
+    no_feed(&text[at..end])
+}
+
 // A Text's range, then its bytes and columns.
-fn text_fault(text: &[u8], plain: bool, a: u32, b: u32, c: u32) -> u32
-    requires { ⌜ plain ≡ plainBytes (now text) ⌝ }
+fn text_fault(text: &[u8], seen: Seen, a: u32, b: u32, c: u32) -> u32
+    requires { ⌜ Saw seen (now text) ⌝ }
     ensures { λ r. ⌜ r ≡ textFault (now (text .entry)) a b c ⌝ }
 {
     let at = a as usize;
@@ -219,13 +245,16 @@ fn text_fault(text: &[u8], plain: bool, a: u32, b: u32, c: u32) -> u32
     if text.len() < end {
         return 4;
     }
-    if plain_at_once(text, plain, at, b as usize) {
+    if !part_unfed(text, seen.unfed, at, b as usize) {
+        return 5;
+    }
+    if plainly_below_128(text, seen.low, at, b as usize) {
         if c == b {
             return 0;
         }
         return 5;
     }
-    if columns_right(&text[at..end], Column(c)) {
+    if columns_fit(&text[at..end], Column(c)) {
         0
     } else {
         5
@@ -250,7 +279,7 @@ fn plainly_right(n: NodeNo, k: u32, a: u32, b: u32, c: u32) -> bool
 // first, by itself.
 fn node_fault(
     text: &[u8],
-    plain: bool,
+    seen: Seen,
     info: KindInfo,
     n: NodeNo,
     k: u32,
@@ -258,11 +287,11 @@ fn node_fault(
     b: u32,
     c: u32,
 ) -> u32
-    requires { ⌜ (plain ≡ plainBytes (now text)) × (k < 11) × (info ≡ kindAt k) ⌝ }
+    requires { ⌜ Saw seen (now text) × (k < 11) × (info ≡ kindAt k) ⌝ }
     ensures { λ r. ⌜ r ≡ faultOf (now (text .entry)) (n .0) k a b c ⌝ }
 {
     if k == TEXT {
-        return text_fault(text, plain, a, b, c);
+        return text_fault(text, seen, a, b, c);
     }
     if !unused_zero(info.words, a, b, c) {
         return 2;
@@ -279,8 +308,8 @@ fn node_fault(
 // ---- the whole table
 
 // The first fault of the nodes from 0 up, unreachable ones too.
-fn first_fault(table: &[u32], text: &[u8], plain: bool) -> Fault
-    requires { ⌜ (plain ≡ plainBytes (now text)) × (length (now table) ≤ 4096) ⌝ }
+fn first_fault(table: &[u32], text: &[u8], seen: Seen) -> Fault
+    requires { ⌜ Saw seen (now text) × (length (now table) ≤ 4096) ⌝ }
     ensures { λ r. ⌜ Tells r (firstFault (now (table .entry)) (now (text .entry)) (length (now (table .entry)) / 4)) ⌝ }
 {
     let kinds = all_kinds();
@@ -301,7 +330,7 @@ fn first_fault(table: &[u32], text: &[u8], plain: bool) -> Fault
             return Fault { answer: 2, place };
         }
         let info = kinds[k as usize];
-        let answer = node_fault(text, plain, info, place, k, a, b, c);
+        let answer = node_fault(text, seen, info, place, k, a, b, c);
         if answer != 0 {
             return Fault { answer, place };
         }
@@ -329,5 +358,7 @@ pub fn validate(table: &[u32], text: &[u8]) -> Fault
             place: NodeNo(0),
         };
     }
-    first_fault(table, text, all_plain(text))
+    let low = below_128(text);
+    let unfed = no_feed(text);
+    first_fault(table, text, Seen { low, unfed })
 }

@@ -19,23 +19,28 @@ returns c =
     let e : sizesRight (length (a .table .now)) (length (a .text .now)) ≡ false = sym (c .before .sizes-right .ensures) ∙ not-true _ (c .if1 .taken) in
     reported (check (a .table .now) (a .text .now)) 1 0 (check-sizes (a .table .now) (a .text .now) e)
 
-all-plain-requires : tie.Need-all-plain-requires
-all-plain-requires c κs = search needs
+below-128-requires : tie.Need-below-128-requires
+below-128-requires c κs = search needs
+
+no-feed-requires : tie.Need-no-feed-requires
+no-feed-requires c κs = search needs
 
 first-fault-requires : tie.Need-first-fault-requires
 first-fault-requires c κs =
-    let a = c .before .before .before .before .before .args in
-    let e : sizesRight (length (a .table .now)) (length (a .text .now)) ≡ true = sym (c .before .before .sizes-right .ensures) ∙ not-false _ (c .before .if1 .left) in
-    (c .all-plain .ensures, sizes-of (a .table .now) (a .text .now) e .2)
+    let tested = c .before .before in
+    let a = tested .before .before .before .before .args in
+    let e : sizesRight (length (a .table .now)) (length (a .text .now)) ≡ true = sym (tested .before .sizes-right .ensures) ∙ not-false _ (tested .if1 .left) in
+    ((c .before .below-128 .ensures, c .no-feed .ensures), sizes-of (a .table .now) (a .text .now) e .2)
 
 returns-2 : tie.Need-returns-2
 returns-2 c =
-    let a = c .before .before .before .before .before .before .args in
-    let e : sizesRight (length (a .table .now)) (length (a .text .now)) ≡ true = sym (c .before .before .before .sizes-right .ensures) ∙ not-false _ (c .before .before .if1 .left) in
+    let tested = c .before .before .before in
+    let a = tested .before .before .before .before .args in
+    let e : sizesRight (length (a .table .now)) (length (a .text .now)) ≡ true = sym (tested .before .sizes-right .ensures) ∙ not-false _ (tested .if1 .left) in
     let whole = sym (check-nodes (a .table .now) (a .text .now) e) in
     (c .first-fault .ensures .0 ∙ ap (λ (f : Fault). f .answer) whole, c .first-fault .ensures .1 ∙ ap (λ (f : Fault). f .place) whole)
 
 pub validate-spec : {M : Type 1} → statement M
 validate-spec =
     tie.close
-    (tie.spec sizes-right-requires returns all-plain-requires first-fault-requires returns-2)
+    (tie.spec sizes-right-requires returns below-128-requires no-feed-requires first-fault-requires returns-2)
