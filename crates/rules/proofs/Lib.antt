@@ -17,6 +17,8 @@ mod NotLaws
 pub mod Bounds
 pub mod Answers
 pub mod Cleared
+-- why a group broke: the reason, and what the fit test says
+pub mod Reasons
 -- like trees run alike
 pub mod Like
 -- random calls, with the answers of the interpreter in compare
