@@ -111,7 +111,7 @@ module _ (L : Limits) where
       step-is n s (λ s. then-meets (lay-meets a i m (record { what = b; ind = i } ∷ ws) p s) (λ p s. lay-meets b i m ws p s))
   lay-meets (group n a) i flat ws p s = step-is n s (λ s. lay-meets a i flat ws p s)
   lay-meets (group n a) i broken ws p s =
-      step-is n s (λ s. chosen-meets {g = λ m. mean (doc a) .lays (L .width) i m (after ws) (next ws) p} (fit-meets a flat (rest L ws) (after ws) (rest-meets ws) (p .column) s) (λ m s. lay-meets a i m ws p s))
+      visit-is Meets s is-refused (λ s. chosen-meets {g = λ m. mean (doc a) .lays (L .width) i m (after ws) (next ws) p} (fit-meets a flat (rest L ws) (after ws) (rest-meets ws) (p .column) s) (λ m s. lay-meets a i m ws p s))
   lay-meets (flatAlt n a b) i flat ws p s = step-is n s (λ s. lay-meets b i flat ws p s)
   lay-meets (flatAlt n a b) i broken ws p s = step-is n s (λ s. lay-meets a i broken ws p s)
   lay-meets (nest n a k way) i m ws p s = step-is n s (λ s. lay-meets a _ m ws p s)

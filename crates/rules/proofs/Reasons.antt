@@ -12,7 +12,7 @@ use mathlib.Core.Bool.{Bool, true, false}
 use mathlib.Core.List.{List, [], _∷_}
 use lib.Dec.{eqb, leb}
 use Rattle.table.specs.Unfold.{Tree, nil, append, group, flatAlt, nest, hardline, text, annotated, union, align, fail}
-use Rattle.rules.specs.Layout.{Limits, Page, Mode, flat, broken, Entry, Fit, says, spent, refused, steps, chosen, visit, look, fit, rest, lay}
+use Rattle.rules.specs.Layout.{Limits, Page, Mode, flat, broken, Entry, Fit, says, spent, refused, brokenGroup, steps, chosen, visit, look, fit, rest, lay}
 use Rattle.rules.specs.Why.{Reason, goesFlat, modeIf, Met, through, found, thenMeets, orElse, firstIn, firstAfter, reason}
 
 -- a fit test that is not spent goes on as k where the walk came through, else says yes or no by the reason
@@ -90,7 +90,7 @@ module _ (L : Limits) where
       → lay L (group n a) i broken ws p s ≡ lay L a i (modeIf (goesFlat (reason (L .width) a ws (p .column)))) ws p s′
   unfolding lay visit
   group-goes n a i ws p s {b} {s′} more e =
-      ap (λ t. elim t [ true ↦ refused steps n s | false ↦ chosen (fit L a flat (rest L ws) (p .column) (s + 1)) (λ m s. lay L a i m ws p s) ]) more
+      ap (λ t. elim t [ true ↦ refused (steps (brokenGroup a ws (p .column))) n s | false ↦ chosen (fit L a flat (rest L ws) (p .column) (s + 1)) (λ m s. lay L a i m ws p s) ]) more
       ∙ ap (λ v. chosen v (λ m s. lay L a i m ws p s)) e
       ∙ goes b
       ∙ ap (λ q. lay L a i (modeIf q) ws p s′) (says-why a ws (p .column) (s + 1) e)
