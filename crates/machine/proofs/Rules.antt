@@ -12,7 +12,7 @@ use Rattle.table.specs.Node.{Node, nil, append, group, flatAlt, nest, hardline,
 use Rattle.table.specs.Unfold.{Tree, treeOf, tree}
 use Rattle.table.specs.Sound.{Sound, AllSound}
 use Rattle.table.proofs.Unfolded.{tree-node}
-use Rattle.rules.specs.Layout.{Limits, Page, blank, Mode, flat, broken, Outcome, done, failed, refused, steps, bytes, events, Report, report, also, andThen, try, chosen, next, nested, taken, fed, wrote, marked}
+use Rattle.rules.specs.Layout.{Limits, Page, blank, Mode, flat, broken, Due, brokenGroup, other, Outcome, done, failed, refused, steps, bytes, events, Report, report, also, andThen, try, chosen, next, nested, taken, fed, wrote, marked}
 use Rattle.rules.specs.Layout as rules
 use Rattle.machine.specs.Waiting.{Saved, Entry, node, trial, mark, back, nextIndent}
 use Rattle.machine.specs.Fit.{Verdict, fits, wide, due, item, reread, fit}
@@ -85,7 +85,7 @@ module _ (E : Env) (at : ℕ → Tree) where
       → after p w over (chosen (said L at v) (λ m s. lays a i m w p s)) ≡ onward (decided v a i p over w)
   decided-is (fits left) a i p over w = one-is a i flat p left over w
   decided-is (wide left) a i p over w = one-is a i broken p left over w
-  decided-is (due n) a i p over w = ap report (finish-refused L at p w over steps n _)
+  decided-is (due n) a i p over w = ap report (finish-refused L at p w over (steps other) n _)
 
   -- a trial begins
   union-is : (a b i : ℕ) (m : Mode) (p : Page) (left : ℕ) (over : Bool) (w : List Entry)
@@ -114,9 +114,24 @@ module _ (E : Env) (at : ℕ → Tree) where
   mark-is N n l p left over w q =
       event-is n 0 l p left over w w (also false) (ap report (finish-same L at N _ _ p (marked 0 l p) w over _ (q .stack .1) (more-agrees p _))) refl
 
+  -- what is due in layout at a node: a Group met broken, or another
+  abbrev pub dueAt : Node → Mode → List rules.Entry → ℕ → Due
+  dueAt nil m ws c = other
+  dueAt (append a b) m ws c = other
+  dueAt (group a) broken ws c = brokenGroup (at a) ws c
+  dueAt (group a) flat ws c = other
+  dueAt (flatAlt a b) m ws c = other
+  dueAt (nest a k way) m ws c = other
+  dueAt hardline m ws c = other
+  dueAt (text o l cols) m ws c = other
+  dueAt (annotated a l) m ws c = other
+  dueAt (union a b) m ws c = other
+  dueAt (align a) m ws c = other
+  dueAt fail m ws c = other
+
   -- a node that is due with no step left
   due-is : (nd : Node) (n i : ℕ) (m : Mode) (p : Page) (ws : List rules.Entry)
-      → rules.lay L (treeOf (E .str) at n nd) i m ws p (made zero) ≡ refused steps n (made zero)
+      → rules.lay L (treeOf (E .str) at n nd) i m ws p (made zero) ≡ refused (steps (dueAt nd m ws (p .column))) n (made zero)
   unfolding rules.lay
   due-is nil n i m p ws = visit-stops L _ _
   due-is (append a b) n i m p ws = visit-stops L _ _
@@ -182,7 +197,7 @@ module _ (E : Env) (at : ℕ → Tree) where
         → left ≤ L .limit → Well L N p (node n i m ∷ w)
         → after p w over (rules.lay L (treeOf (E .str) at n (nodeAt (E .table) n)) i m (waiting L at w) p (made left))
         ≡ onward (dueNode E n i m p left over w)
-    dueNode-is n i m p zero over w h q = ap (after p w over) (due-is (nodeAt (E .table) n) n i m p _) ∙ ap report (finish-refused L at p w over steps n _)
+    dueNode-is n i m p zero over w h q = ap (after p w over) (due-is (nodeAt (E .table) n) n i m p _) ∙ ap report (finish-refused L at p w over _ n _)
     dueNode-is n i m p (suc left) over w h q =
         visit-is (nodeAt (E .table) n) n i m p left over w (omega arith) (valid n (omega (arith, q .stack .0))) q
 
