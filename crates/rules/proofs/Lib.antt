@@ -17,8 +17,9 @@ mod NotLaws
 pub mod Bounds
 pub mod Answers
 pub mod Cleared
--- why a group broke: the reason, and what the fit test says
+-- why a group broke: what the fit test says, and that the reason is the first node met that breaks or ends it
 pub mod Reasons
+pub mod FirstMet
 -- like trees run alike
 pub mod Like
 -- random calls, with the answers of the interpreter in compare
