@@ -20,6 +20,8 @@ pub mod Cleared
 -- why a group broke: what the fit test says, and that the reason is the first node met that breaks or ends it
 pub mod Reasons
 pub mod FirstMet
+-- computed: the request's cases
+mod WhyCases
 -- like trees run alike
 pub mod Like
 -- random calls, with the answers of the interpreter in compare

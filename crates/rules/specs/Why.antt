@@ -1,13 +1,16 @@
--- Why a group went onto several lines or stayed on one (document 02, request 2026-01): the reasons, and the first node that the group's fit test
--- meets that breaks it or ends it flat. No steps are counted here: the limit counts only up to the visit of the Group.
+-- Why a group went onto several lines or stayed on one (document 02, request 2026-01): the reasons; the first node that the group's fit test meets
+-- that breaks it or ends it flat, without steps, for the limit counts only up to the visit of the Group; which visit a step names; and the whole call.
 -- proofs/Reasons.antt: a fit test with steps enough says yes exactly if the reason is one of the two for flat.
 -- Assumes nothing.
-use Prim.Native.Nat.{ℕ, _+_}
+use Prim.Native.Nat.{ℕ, zero, suc, _+_}
 use mathlib.Core.Bool.{Bool, true, false}
 use mathlib.Core.List.{List, [], _∷_}
-use lib.Dec.{leb}
-use Rattle.table.specs.Unfold.{Tree, nil, append, group, flatAlt, nest, hardline, text, annotated, union, align, fail}
-use Rattle.rules.specs.Layout.{Mode, flat, broken, Entry}
+use lib.Dec.{leb, ltb, eqb}
+use Rattle.choice.specs.Pick.{pick}
+use Rattle.table.specs.Fault.{Fault, check}
+use Rattle.table.specs.Unfold.{tree, root, Tree, nil, append, group, flatAlt, nest, hardline, text, annotated, union, align, fail}
+use Rattle.rules.specs.Layout.{Limits, blank, Mode, flat, broken, Entry, Due, brokenGroup, other, number, steps, bytes, events, Outcome, done, failed, refused, lay}
+use Rattle.rules.specs.Call.{Given, buffersRight, limits}
 
 -- Broken has one of three, with node and column: the column is that reached at the node, for a Text at its end.
 -- Flat has one of two: nothing was left, or a Hardline after the group, with its node.
@@ -101,3 +104,57 @@ module _ (width : ℕ) where
   -- A Group with child a, met broken in layout at column c, where ws wait: its child, flat, then the waiting nodes.
   unfoldable pub reason : Tree → List Entry → ℕ → Reason
   reason a ws c = orElse (firstIn a flat c) (λ c. firstAfter ws c)
+
+-- ---- the visit that a step names
+
+-- the answer; 0 flat or 1 broken; the reason's number; node and column. On a refusal every field but the answer is 0.
+pub record WhyReport : Type 0 where
+  pub answer : ℕ
+  pub broken : ℕ
+  pub reason : ℕ
+  pub node : ℕ
+  pub column : ℕ
+
+abbrev pub whyRefused : ℕ → WhyReport
+whyRefused answer = record { answer = answer; broken = 0; reason = 0; node = 0; column = 0 }
+
+abbrev pub told : Reason → WhyReport
+told r = record { answer = 0; broken = pick (goesFlat r) 0 1; reason = reasonNumber r; node = reasonNode r; column = reasonColumn r }
+
+-- a Group met broken in layout has a reason; a step that is no such visit is 13
+abbrev pub whyDue : ℕ → Due → WhyReport
+whyDue width (brokenGroup a ws c) = told (reason width a ws c)
+whyDue width other = whyRefused 13
+
+-- a run that ends before the visit gives its own 6 to 9, or 13 if it ends with 0
+abbrev pub endedBefore : Outcome → WhyReport
+endedBefore (done p past s) = whyRefused 13
+endedBefore (failed s) = whyRefused 6
+endedBefore (refused r n s) = whyRefused (number r)
+
+-- a run whose limit is one step short of the visit: where it ends with 7 the visit's node is due
+abbrev pub atVisit : ℕ → Outcome → WhyReport
+atVisit width (done p past s) = whyRefused 13
+atVisit width (failed s) = whyRefused 6
+atVisit width (refused (steps d) n s) = whyDue width d
+atVisit width (refused bytes n s) = whyRefused 8
+atVisit width (refused events n s) = whyRefused 9
+
+-- the run of a tree with this step limit in place of its own
+abbrev pub runTo : Limits → ℕ → Tree → Outcome
+runTo L k t = lay (record { width = L .width; limit = k; room = L .room; slots = L .slots }) t 0 broken [] blank 0
+
+-- Step 0 names no visit. The limit counts only up to the visit, so the two may be equal.
+unfoldable pub whyRun : Limits → Tree → ℕ → WhyReport
+whyRun L t zero = whyRefused 13
+whyRun L t (suc k) = pick (ltb k (L .limit)) (atVisit (L .width) (runTo L k t)) (endedBefore (runTo L (L .limit) t))
+
+-- ---- the whole call
+
+abbrev pub unlessFaulty : Fault → WhyReport → WhyReport
+unlessFaulty f r = pick (eqb (f .answer) 0) r (whyRefused (f .answer))
+
+-- 1 comes first, then the faults of the table, then the visit; the buffers end zero (Call.antt, `buffers` of a refusal)
+unfoldable pub why : Given → ℕ → WhyReport
+why g step =
+    pick (buffersRight g) (unlessFaulty (check (g .table) (g .text)) (whyRun (limits g) (tree (g .table) (g .text) (root (g .table))) step)) (whyRefused 1)
