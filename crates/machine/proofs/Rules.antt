@@ -1,7 +1,7 @@
 -- The step function ends where the rules end: a turn leads to where the rules lead, and so do a run and a whole layout. Node n unfolds to `at n`.
 -- Assumes nothing.
 use Prim.Native.Nat.{ℕ, zero, suc, _+_, _-_, _*_, _≤_, _<_}
-use mathlib.Core.Path.{_≡_, refl, sym, ap, _∙_}
+use mathlib.Core.Path.{_≡_, refl, sym, ap, ap₂, subst, _∙_}
 use mathlib.Core.Bool.{Bool, true, false, _||_}
 use mathlib.Core.List.{List, [], _∷_}
 use native.Mathlib.Omega.{arith}
@@ -34,47 +34,52 @@ module _ (E : Env) (at : ℕ → Tree) where
   abbrev lays : ℕ → ℕ → Mode → List Entry → Page → ℕ → Outcome
   lays n i m w p s = rules.lay L (at n) i m (waiting L at w) p s
 
-  -- what the rules report where what was on top ended as x
-  abbrev after : Page → List Entry → Bool → Outcome → Report
-  after p w over x = report (finish L at p w over x)
+  -- how the run ends where what was on top ended as x
+  abbrev after : Page → List Entry → Bool → Outcome → Outcome
+  after p w over x = finish L at p w over x
 
-  -- what the rules report from where a turn leads
-  abbrev onward : Turned → Report
-  onward (on p left over w) = report (whole L at p w over (made left))
-  onward (stop a n left) = ended E a n left
+  -- a run that ends as x is where a turn leads: it goes on to end so, or its report is the stop's
+  abbrev pub Onward : Outcome → Turned → Type 0
+  Onward x (on p left over w) = x ≡ whole L at p w over (made left)
+  Onward x (stop a n left) = report x ≡ ended E a n left
+
+  -- the same of an equal outcome
+  as-well : {x y : Outcome} (t : Turned) → x ≡ y → Onward y t → Onward x t
+  as-well (on p left over w) e h = e ∙ h
+  as-well (stop a n left) e h = ap report e ∙ h
 
   -- a node stands in the place of the one visited
   one-is : (n i : ℕ) (m : Mode) (p : Page) (left : ℕ) (over : Bool) (w : List Entry)
-      → after p w over (lays n i m w p (made left)) ≡ onward (on p left over (node n i m ∷ w))
-  one-is n i m p left over w = ap report (sym (whole-node L at p n i m w over _))
+      → after p w over (lays n i m w p (made left)) ≡ whole L at p (node n i m ∷ w) over (made left)
+  one-is n i m p left over w = sym (whole-node L at p n i m w over _)
 
   put-is : (N : ℕ) (p q : Page) (left : ℕ) (over past : Bool) (w : List Entry)
       → Stacked N (length (p .out)) (length (p .events)) w → Agree (length (p .out)) (length (p .events)) p q
-      → after p w over (rules.put L q past (made left)) ≡ onward (put L q left (over || past) w)
+      → Onward (after p w over (rules.put L q past (made left))) (put L q left (over || past) w)
   unfolding rules.put
   put-is N p q left over past w k e = go (leb (taken q) (L .room))
     where
       go : (t : Bool)
-          → after p w over (elim t [ true ↦ done q past (made left) | false ↦ refused bytes 0 (made left) ])
-          ≡ onward (pick t (on q left (over || past) w) (stop 8 0 left))
-      go true = ap report (whole-done L at N p q w over past _ k e)
+          → Onward (after p w over (elim t [ true ↦ done q past (made left) | false ↦ refused bytes 0 (made left) ]))
+          (pick t (on q left (over || past) w) (stop 8 0 left))
+      go true = whole-done L at N p q w over past _ k e
       go false = ap report (finish-refused L at p w over bytes 0 _)
 
   -- `then` is what follows the event, and hands a refusal on
   event-is : (n m l : ℕ) (p : Page) (left : ℕ) (over : Bool) (w v : List Entry) (then : Outcome → Outcome)
-      → after p w over (then (done (marked m l p) false (made left))) ≡ onward (on (marked m l p) left over v)
+      → after p w over (then (done (marked m l p) false (made left))) ≡ whole L at (marked m l p) v over (made left)
       → then (refused events n (made left)) ≡ refused events n (made left)
-      → after p w over (then (rules.event L n m l p (made left))) ≡ onward (event L n m l p left over v)
+      → Onward (after p w over (then (rules.event L n m l p (made left)))) (event L n m l p left over v)
   unfolding rules.event
   event-is n m l p left over w v then fitted full = go (ltb (length (p .events)) (L .slots))
     where
       go : (t : Bool)
-          → after p w over (then (elim t [ true ↦ done (marked m l p) false (made left) | false ↦ refused events n (made left) ]))
-          ≡ onward (pick t (on (marked m l p) left over v) (stop 9 n left))
+          → Onward (after p w over (then (elim t [ true ↦ done (marked m l p) false (made left) | false ↦ refused events n (made left) ])))
+          (pick t (on (marked m l p) left over v) (stop 9 n left))
       go true = fitted
-      go false = ap (after p w over) full ∙ ap report (finish-refused L at p w over events n _)
+      go false = ap (λ x. report (after p w over x)) full ∙ ap report (finish-refused L at p w over events n _)
 
-  giveUp-is : (p : Page) (left : ℕ) (over : Bool) (w : List Entry) → after p w over (failed (made left)) ≡ onward (giveUp p left w)
+  giveUp-is : (p : Page) (left : ℕ) (over : Bool) (w : List Entry) → Onward (after p w over (failed (made left))) (giveUp p left w)
   unfolding finish
   giveUp-is p left over [] = refl
   giveUp-is p left over (node n i m ∷ w) = giveUp-is p left over w
@@ -82,7 +87,7 @@ module _ (E : Env) (at : ℕ → Tree) where
   giveUp-is p left over (mark n l ∷ w) = giveUp-is p left over w
 
   decided-is : (v : Verdict) (a i : ℕ) (p : Page) (over : Bool) (w : List Entry)
-      → after p w over (chosen (said L at v) (λ m s. lays a i m w p s)) ≡ onward (decided v a i p over w)
+      → Onward (after p w over (chosen (said L at v) (λ m s. lays a i m w p s))) (decided v a i p over w)
   decided-is (fits left) a i p over w = one-is a i flat p left over w
   decided-is (wide left) a i p over w = one-is a i broken p left over w
   decided-is (due n) a i p over w = ap report (finish-refused L at p w over (steps other) n _)
@@ -90,11 +95,11 @@ module _ (E : Env) (at : ℕ → Tree) where
   -- a trial begins
   union-is : (a b i : ℕ) (m : Mode) (p : Page) (left : ℕ) (over : Bool) (w : List Entry)
       → after p w over (try (lays a i m w p (made left)) (λ s. lays b i m w p s))
-      ≡ onward
-      (on p left false
+      ≡ whole L at p
       (node a i m
       ∷ trial b i m (record { column = p .column; bytes = length (p .out); events = length (p .events); over = over })
-      ∷ w))
+      ∷ w)
+      false (made left)
   unfolding finish waiting
   union-is a b i m p left over w =
       ap (λ x. after p w over (try x (λ s. lays b i m w p s))) (sym (also-false (lays a i m w p (made left))))
@@ -102,17 +107,17 @@ module _ (E : Env) (at : ℕ → Tree) where
       ∙ one-is a i m p left false (trial b i m _ ∷ w)
 
   endTrial-is : (N : ℕ) (over : Bool) (b i : ℕ) (m : Mode) (a : Saved) (p : Page) (left : ℕ) (w : List Entry)
-      → Well L N p (trial b i m a ∷ w) → report (whole L at p (trial b i m a ∷ w) over (made left)) ≡ onward (endTrial over b i m a p left w)
+      → Well L N p (trial b i m a ∷ w) → Onward (whole L at p (trial b i m a ∷ w) over (made left)) (endTrial over b i m a p left w)
   unfolding whole finish
   endTrial-is N true b i m a p left w q = one-is b i m (back a p) left (a .over) w
-  endTrial-is N false b i m a p left w q = ap report (finish-same L at N _ _ (back a p) p w (a .over) _ (q .stack .5) (back-agrees a p))
+  endTrial-is N false b i m a p left w q = finish-same L at N _ _ (back a p) p w (a .over) _ (q .stack .5) (back-agrees a p)
 
   -- an annotation ends
   mark-is : (N n l : ℕ) (p : Page) (left : ℕ) (over : Bool) (w : List Entry)
-      → Well L N p (mark n l ∷ w) → report (whole L at p (mark n l ∷ w) over (made left)) ≡ onward (event L n 0 l p left over w)
+      → Well L N p (mark n l ∷ w) → Onward (whole L at p (mark n l ∷ w) over (made left)) (event L n 0 l p left over w)
   unfolding whole finish
   mark-is N n l p left over w q =
-      event-is n 0 l p left over w w (also false) (ap report (finish-same L at N _ _ p (marked 0 l p) w over _ (q .stack .1) (more-agrees p _))) refl
+      event-is n 0 l p left over w w (also false) (finish-same L at N _ _ p (marked 0 l p) w over _ (q .stack .1) (more-agrees p _)) refl
 
   -- what is due in layout at a node: a Group met broken, or another
   abbrev pub dueAt : Node → Mode → List rules.Entry → ℕ → Due
@@ -150,64 +155,66 @@ module _ (E : Env) (at : ℕ → Tree) where
   module _ (N : ℕ) (valid : AllSound (E .table) (length (E .str)) N) (unfolds : (n : ℕ) → n < N → at n ≡ treeOf (E .str) at n (nodeAt (E .table) n)) where
     group-is : (n a i : ℕ) (p : Page) (left : ℕ) (over : Bool) (w : List Entry)
         → left < L .limit → a < n → Well L N p (node n i broken ∷ w)
-        → after p w over (chosen (rules.fit L (at a) flat (rules.rest L (waiting L at w)) (p .column) (made left)) (λ m s. lays a i m w p s))
-        ≡ onward (visit E n (group a) i broken p left over w)
+        → Onward (after p w over (chosen (rules.fit L (at a) flat (rules.rest L (waiting L at w)) (p .column) (made left)) (λ m s. lays a i m w p s)))
+        (visit E n (group a) i broken p left over w)
     unfolding walks
     group-is n a i p left over w h g q =
         let tested : rules.fit L (at a) flat (walks L at (reread w)) (p .column) (made left)
         ≡ said L at (fit (E .table) (L .width) left (item a flat ∷ reread w) (p .column)) =
         fit-is L at (E .str) (E .table) N valid unfolds left (item a flat ∷ reread w) (p .column) (omega arith)
         (omega (arith, q .stack .0), reread-items N w (nodes-of N _ _ w (q .stack .2))) in
-        ap (λ k. after p w over (chosen (rules.fit L (at a) flat k (p .column) (made left)) (λ m s. lays a i m w p s))) (sym (walks-rest L at w))
-        ∙ ap (λ v. after p w over (chosen v (λ m s. lays a i m w p s))) tested
-        ∙ decided-is (fit (E .table) (L .width) left (item a flat ∷ reread w) (p .column)) a i p over w
+        as-well (visit E n (group a) i broken p left over w)
+        (ap (λ k. after p w over (chosen (rules.fit L (at a) flat k (p .column) (made left)) (λ m s. lays a i m w p s))) (sym (walks-rest L at w))
+        ∙ ap (λ v. after p w over (chosen v (λ m s. lays a i m w p s))) tested)
+        (decided-is (fit (E .table) (L .width) left (item a flat ∷ reread w) (p .column)) a i p over w)
 
     -- a node that is due with a step left
     visit-is : (nd : Node) (n i : ℕ) (m : Mode) (p : Page) (left : ℕ) (over : Bool) (w : List Entry)
         → left < L .limit → Sound (length (E .str)) n nd → Well L N p (node n i m ∷ w)
-        → after p w over (rules.lay L (treeOf (E .str) at n nd) i m (waiting L at w) p (made (suc left))) ≡ onward (visit E n nd i m p left over w)
+        → Onward (after p w over (rules.lay L (treeOf (E .str) at n nd) i m (waiting L at w) p (made (suc left)))) (visit E n nd i m p left over w)
     unfolding rules.lay finish whole waiting
     visit-is nil n i m p left over w h g q = ap (after p w over) (visit-goes L _ _ left h)
     visit-is (append a b) n i m p left over w h g q = ap (after p w over) (visit-goes L _ _ left h) ∙ one-is a i m p left over (node b i m ∷ w)
-    visit-is (group a) n i broken p left over w h g q = ap (after p w over) (visit-goes L _ _ left h) ∙ group-is n a i p left over w h g q
+    visit-is (group a) n i broken p left over w h g q = as-well (visit E n (group a) i broken p left over w) (ap (after p w over) (visit-goes L _ _ left h)) (group-is n a i p left over w h g q)
     visit-is (group a) n i flat p left over w h g q = ap (after p w over) (visit-goes L _ _ left h) ∙ one-is a i flat p left over w
     visit-is (flatAlt a b) n i broken p left over w h g q = ap (after p w over) (visit-goes L _ _ left h) ∙ one-is a i broken p left over w
     visit-is (flatAlt a b) n i flat p left over w h g q = ap (after p w over) (visit-goes L _ _ left h) ∙ one-is b i flat p left over w
     visit-is (nest a k way) n i m p left over w h g q = ap (after p w over) (visit-goes L _ _ left h) ∙ one-is a (nested way k i) m p left over w
     visit-is hardline n i m p left over w h g q =
-        ap (after p w over) (visit-goes L _ _ left h)
-        ∙ put-is N p (fed (next (waiting L at w) i) p) left over false w (q .stack .2) (longer-agrees p _ _)
-        ∙ ap (λ j. onward (put L (fed j p) left (over || false) w)) (next-is L at i w)
-        ∙ ap (λ o. onward (put L (fed (nextIndent i w) p) left o w)) (or-false over)
+        subst (Onward _) (ap₂ (λ j o. put L (fed j p) left o w) (next-is L at i w) (or-false over))
+        (as-well (put L (fed (next (waiting L at w) i) p) left (over || false) w) (ap (after p w over) (visit-goes L _ _ left h))
+        (put-is N p (fed (next (waiting L at w) i) p) left over false w (q .stack .2) (longer-agrees p _ _)))
     visit-is (text o l cols) n i m p left over w h g q =
-        ap (after p w over) (visit-goes L _ _ left h)
-        ∙ put-is N p (wrote (take l (drop o (E .str))) cols p) left over _ w (q .stack .2) (longer-agrees p _ _)
+        as-well (visit E n (text o l cols) i m p left over w) (ap (after p w over) (visit-goes L _ _ left h))
+        (put-is N p (wrote (take l (drop o (E .str))) cols p) left over _ w (q .stack .2) (longer-agrees p _ _))
     visit-is (annotated a l) n i m p left over w h g q =
-        ap (after p w over) (visit-goes L _ _ left h)
-        ∙ event-is n 1 l p left over w (node a i m ∷ mark n l ∷ w) (λ x. andThen x (λ p s. andThen (lays a i m w p s) (λ p s. rules.event L n 0 l p s)))
+        as-well (visit E n (annotated a l) i m p left over w) (ap (after p w over) (visit-goes L _ _ left h))
+        (event-is n 1 l p left over w (node a i m ∷ mark n l ∷ w) (λ x. andThen x (λ p s. andThen (lays a i m w p s) (λ p s. rules.event L n 0 l p s)))
         (ap (after p w over) (also-false _)
-        ∙ ap report (finish-same L at N _ _ p (marked 1 l p) w over _ (q .stack .2) (more-agrees p _))
+        ∙ finish-same L at N _ _ p (marked 1 l p) w over _ (q .stack .2) (more-agrees p _)
         ∙ one-is a i m (marked 1 l p) left over (mark n l ∷ w))
-        refl
+        refl)
     visit-is (union a b) n i m p left over w h g q = ap (after p w over) (visit-goes L _ _ left h) ∙ union-is a b i m p left over w
     visit-is (align a) n i m p left over w h g q = ap (after p w over) (visit-goes L _ _ left h) ∙ one-is a (p .column) m p left over w
-    visit-is fail n i m p left over w h g q = ap (after p w over) (visit-goes L _ _ left h) ∙ giveUp-is p left over w
+    visit-is fail n i m p left over w h g q = as-well (giveUp p left w) (ap (after p w over) (visit-goes L _ _ left h)) (giveUp-is p left over w)
 
     dueNode-is : (n i : ℕ) (m : Mode) (p : Page) (left : ℕ) (over : Bool) (w : List Entry)
         → left ≤ L .limit → Well L N p (node n i m ∷ w)
-        → after p w over (rules.lay L (treeOf (E .str) at n (nodeAt (E .table) n)) i m (waiting L at w) p (made left))
-        ≡ onward (dueNode E n i m p left over w)
-    dueNode-is n i m p zero over w h q = ap (after p w over) (due-is (nodeAt (E .table) n) n i m p _) ∙ ap report (finish-refused L at p w over _ n _)
+        → Onward (after p w over (rules.lay L (treeOf (E .str) at n (nodeAt (E .table) n)) i m (waiting L at w) p (made left)))
+        (dueNode E n i m p left over w)
+    dueNode-is n i m p zero over w h q =
+        ap (λ x. report (after p w over x)) (due-is (nodeAt (E .table) n) n i m p _) ∙ ap report (finish-refused L at p w over _ n _)
     dueNode-is n i m p (suc left) over w h q =
         visit-is (nodeAt (E .table) n) n i m p left over w (omega arith) (valid n (omega (arith, q .stack .0))) q
 
     turn-is : (p : Page) (left : ℕ) (over : Bool) (e : Entry) (w : List Entry)
-        → left ≤ L .limit → Well L N p (e ∷ w) → report (whole L at p (e ∷ w) over (made left)) ≡ onward (turn E p left over e w)
+        → left ≤ L .limit → Well L N p (e ∷ w) → Onward (whole L at p (e ∷ w) over (made left)) (turn E p left over e w)
     unfolding turn
     turn-is p left over (node n i m) w h q =
-        ap report (whole-node L at p n i m w over _)
-        ∙ ap (λ t. after p w over (rules.lay L t i m (waiting L at w) p (made left))) (unfolds n (omega (arith, q .stack .0)))
-        ∙ dueNode-is n i m p left over w h q
+        as-well (dueNode E n i m p left over w)
+        (whole-node L at p n i m w over _
+        ∙ ap (λ t. after p w over (rules.lay L t i m (waiting L at w) p (made left))) (unfolds n (omega (arith, q .stack .0))))
+        (dueNode-is n i m p left over w h q)
     turn-is p left over (trial b i m a) w h q = endTrial-is N over b i m a p left w q
     turn-is p left over (mark n l) w h q = mark-is N n l p left over w q
 
@@ -217,15 +224,15 @@ module _ (E : Env) (at : ℕ → Tree) where
     run-is zero p left over w h q less = absurd (omega arith)
     run-is (suc turns) p left over [] h q less = refl
     run-is (suc turns) p left over (e ∷ w) h q less =
-        go (turn E p left over e w) (turn-next E N valid p left over e w q) (λ p′ left′ over′ w′ h′ q′ less′. run-is turns p′ left′ over′ w′ h′ q′ less′)
-        ∙ sym (turn-is p left over e w h q)
+        go (turn E p left over e w) (turn-next E N valid p left over e w q) (turn-is p left over e w h q)
+        (λ p′ left′ over′ w′ h′ q′ less′. run-is turns p′ left′ over′ w′ h′ q′ less′)
       where
-        go : (t : Turned) → Next L N left (3 * left + weight (e ∷ w)) t
+        go : (t : Turned) → Next L N left (3 * left + weight (e ∷ w)) t → Onward (whole L at p (e ∷ w) over (made left)) t
             → ((p′ : Page) (left′ : ℕ) (over′ : Bool) (w′ : List Entry)
-            → left′ ≤ L .limit → Well L N p′ w′ → 3 * left′ + weight w′ < turns → run E turns p′ left′ over′ w′ ≡ onward (on p′ left′ over′ w′))
-            → elim t [ on p′ left′ over′ w′ ↦ run E turns p′ left′ over′ w′ | stop a n left′ ↦ ended E a n left′ ] ≡ onward t
-        go (on p′ left′ over′ w′) k ih = ih p′ left′ over′ w′ (omega (arith, k .1)) (k .0) (omega (arith, k .2))
-        go (stop a n left′) k ih = refl
+            → left′ ≤ L .limit → Well L N p′ w′ → 3 * left′ + weight w′ < turns → run E turns p′ left′ over′ w′ ≡ report (whole L at p′ w′ over′ (made left′)))
+            → elim t [ on p′ left′ over′ w′ ↦ run E turns p′ left′ over′ w′ | stop a n left′ ↦ ended E a n left′ ] ≡ report (whole L at p (e ∷ w) over (made left))
+        go (on p′ left′ over′ w′) k same ih = ih p′ left′ over′ w′ (omega (arith, k .1)) (k .0) (omega (arith, k .2)) ∙ ap report (sym same)
+        go (stop a n left′) k same ih = sym same
 
 -- the root alone waits, and no step is made
 root-is : (L : Limits) (at : ℕ → Tree) (n : ℕ) → report (whole L at blank (node n 0 broken ∷ []) false (L .limit - L .limit)) ≡ rules.layout L (at n)
