@@ -14,13 +14,22 @@ use Rattle.table.specs.Sound.{Sound, AllSound}
 use Rattle.table.proofs.Unfolded.{tree-node}
 use Rattle.rules.specs.Layout.{Limits, Page, blank, Mode, flat, broken, Due, brokenGroup, other, Outcome, done, failed, refused, steps, bytes, events, Report, report, also, andThen, try, chosen, next, nested, taken, fed, wrote, marked}
 use Rattle.rules.specs.Layout as rules
-use Rattle.machine.specs.Waiting.{Saved, Entry, node, trial, mark, back, nextIndent}
+use Rattle.rules.specs.Why.{dueIn}
+use Rattle.machine.specs.Waiting.{Saved, Entry, node, trial, mark, back}
 use Rattle.machine.specs.Fit.{Verdict, fits, wide, due, item, reread, fit}
 use Rattle.machine.specs.Turn.{Env, Turned, on, stop, put, event, decided, giveUp, visit, endTrial, dueNode, turn, ended, run, layout}
 use Rattle.machine.specs.Well.{Stacked, weight, Well}
 use Rattle.machine.proofs.Kept.{Next, turn-next, nodes-of}
 use Rattle.machine.proofs.Ends.{visit-goes, visit-stops, or-false, also-false, Agree, back-now, back-agrees, longer-agrees, more-agrees, waiting, next-is, finish, finish-refused, finish-same, whole, whole-node, whole-done}
 use Rattle.machine.proofs.Tested.{said, walks, walks-rest, reread-items, fit-is}
+
+-- what is told of a run's end, and what was due
+pub record Seen : Type 0 where
+  pub told : Report
+  pub due : Due
+
+abbrev pub seen : Outcome → Seen
+seen x = record { told = report x; due = dueIn x }
 
 module _ (E : Env) (at : ℕ → Tree) where
   abbrev L : Limits
@@ -38,15 +47,15 @@ module _ (E : Env) (at : ℕ → Tree) where
   abbrev after : Page → List Entry → Bool → Outcome → Outcome
   after p w over x = finish L at p w over x
 
-  -- a run that ends as x is where a turn leads: it goes on to end so, or its report is the stop's
-  abbrev pub Onward : Outcome → Turned → Type 0
-  Onward x (on p left over w) = x ≡ whole L at p w over (made left)
-  Onward x (stop a n left) = report x ≡ ended E a n left
+  -- a run that ends as x is where a turn leads: it goes on to end so, or it stops with the turn's report, where d was due
+  abbrev pub Onward : Due → Outcome → Turned → Type 0
+  Onward d x (on p left over w) = x ≡ whole L at p w over (made left)
+  Onward d x (stop a n left) = seen x ≡ record { told = ended E a n left; due = d }
 
   -- the same of an equal outcome
-  as-well : {x y : Outcome} (t : Turned) → x ≡ y → Onward y t → Onward x t
-  as-well (on p left over w) e h = e ∙ h
-  as-well (stop a n left) e h = ap report e ∙ h
+  as-well : (d : Due) {x y : Outcome} (t : Turned) → x ≡ y → Onward d y t → Onward d x t
+  as-well d (on p left over w) e h = e ∙ h
+  as-well d (stop a n left) e h = ap seen e ∙ h
 
   -- a node stands in the place of the one visited
   one-is : (n i : ℕ) (m : Mode) (p : Page) (left : ℕ) (over : Bool) (w : List Entry)
@@ -55,31 +64,31 @@ module _ (E : Env) (at : ℕ → Tree) where
 
   put-is : (N : ℕ) (p q : Page) (left : ℕ) (over past : Bool) (w : List Entry)
       → Stacked N (length (p .out)) (length (p .events)) w → Agree (length (p .out)) (length (p .events)) p q
-      → Onward (after p w over (rules.put L q past (made left))) (put L q left (over || past) w)
+      → Onward other (after p w over (rules.put L q past (made left))) (put L q left (over || past) w)
   unfolding rules.put
   put-is N p q left over past w k e = go (leb (taken q) (L .room))
     where
       go : (t : Bool)
-          → Onward (after p w over (elim t [ true ↦ done q past (made left) | false ↦ refused bytes 0 (made left) ]))
+          → Onward other (after p w over (elim t [ true ↦ done q past (made left) | false ↦ refused bytes 0 (made left) ]))
           (pick t (on q left (over || past) w) (stop 8 0 left))
       go true = whole-done L at N p q w over past _ k e
-      go false = ap report (finish-refused L at p w over bytes 0 _)
+      go false = ap seen (finish-refused L at p w over bytes 0 _)
 
   -- `then` is what follows the event, and hands a refusal on
   event-is : (n m l : ℕ) (p : Page) (left : ℕ) (over : Bool) (w v : List Entry) (then : Outcome → Outcome)
       → after p w over (then (done (marked m l p) false (made left))) ≡ whole L at (marked m l p) v over (made left)
       → then (refused events n (made left)) ≡ refused events n (made left)
-      → Onward (after p w over (then (rules.event L n m l p (made left)))) (event L n m l p left over v)
+      → Onward other (after p w over (then (rules.event L n m l p (made left)))) (event L n m l p left over v)
   unfolding rules.event
   event-is n m l p left over w v then fitted full = go (ltb (length (p .events)) (L .slots))
     where
       go : (t : Bool)
-          → Onward (after p w over (then (elim t [ true ↦ done (marked m l p) false (made left) | false ↦ refused events n (made left) ])))
+          → Onward other (after p w over (then (elim t [ true ↦ done (marked m l p) false (made left) | false ↦ refused events n (made left) ])))
           (pick t (on (marked m l p) left over v) (stop 9 n left))
       go true = fitted
-      go false = ap (λ x. report (after p w over x)) full ∙ ap report (finish-refused L at p w over events n _)
+      go false = ap (λ x. seen (after p w over x)) full ∙ ap seen (finish-refused L at p w over events n _)
 
-  giveUp-is : (p : Page) (left : ℕ) (over : Bool) (w : List Entry) → Onward (after p w over (failed (made left))) (giveUp p left w)
+  giveUp-is : (p : Page) (left : ℕ) (over : Bool) (w : List Entry) → Onward other (after p w over (failed (made left))) (giveUp p left w)
   unfolding finish
   giveUp-is p left over [] = refl
   giveUp-is p left over (node n i m ∷ w) = giveUp-is p left over w
@@ -87,10 +96,10 @@ module _ (E : Env) (at : ℕ → Tree) where
   giveUp-is p left over (mark n l ∷ w) = giveUp-is p left over w
 
   decided-is : (v : Verdict) (a i : ℕ) (p : Page) (over : Bool) (w : List Entry)
-      → Onward (after p w over (chosen (said L at v) (λ m s. lays a i m w p s))) (decided v a i p over w)
+      → Onward other (after p w over (chosen (said L at v) (λ m s. lays a i m w p s))) (decided v a i p over w)
   decided-is (fits left) a i p over w = one-is a i flat p left over w
   decided-is (wide left) a i p over w = one-is a i broken p left over w
-  decided-is (due n) a i p over w = ap report (finish-refused L at p w over (steps other) n _)
+  decided-is (due n) a i p over w = ap seen (finish-refused L at p w over (steps other) n _)
 
   -- a trial begins
   union-is : (a b i : ℕ) (m : Mode) (p : Page) (left : ℕ) (over : Bool) (w : List Entry)
@@ -107,14 +116,14 @@ module _ (E : Env) (at : ℕ → Tree) where
       ∙ one-is a i m p left false (trial b i m _ ∷ w)
 
   endTrial-is : (N : ℕ) (over : Bool) (b i : ℕ) (m : Mode) (a : Saved) (p : Page) (left : ℕ) (w : List Entry)
-      → Well L N p (trial b i m a ∷ w) → Onward (whole L at p (trial b i m a ∷ w) over (made left)) (endTrial over b i m a p left w)
+      → Well L N p (trial b i m a ∷ w) → Onward other (whole L at p (trial b i m a ∷ w) over (made left)) (endTrial over b i m a p left w)
   unfolding whole finish
   endTrial-is N true b i m a p left w q = one-is b i m (back a p) left (a .over) w
   endTrial-is N false b i m a p left w q = finish-same L at N _ _ (back a p) p w (a .over) _ (q .stack .5) (back-agrees a p)
 
   -- an annotation ends
   mark-is : (N n l : ℕ) (p : Page) (left : ℕ) (over : Bool) (w : List Entry)
-      → Well L N p (mark n l ∷ w) → Onward (whole L at p (mark n l ∷ w) over (made left)) (event L n 0 l p left over w)
+      → Well L N p (mark n l ∷ w) → Onward other (whole L at p (mark n l ∷ w) over (made left)) (event L n 0 l p left over w)
   unfolding whole finish
   mark-is N n l p left over w q =
       event-is n 0 l p left over w w (also false) (finish-same L at N _ _ p (marked 0 l p) w over _ (q .stack .1) (more-agrees p _)) refl
@@ -133,6 +142,17 @@ module _ (E : Env) (at : ℕ → Tree) where
   dueAt (union a b) m ws c = other
   dueAt (align a) m ws c = other
   dueAt fail m ws c = other
+
+  -- with a step left it is visited, and a fit test's node may be due
+  abbrev pub dueNow : ℕ → Due → Due
+  dueNow zero d = d
+  dueNow (suc left) d = other
+
+  -- what is due where a turn stops with 7
+  abbrev pub dueTurn : Page → ℕ → Entry → List Entry → Due
+  dueTurn p left (node n i m) w = dueNow left (dueAt (nodeAt (E .table) n) m (waiting L at w) (p .column))
+  dueTurn p left (trial b i m a) w = other
+  dueTurn p left (mark n l) w = other
 
   -- a node that is due with no step left
   due-is : (nd : Node) (n i : ℕ) (m : Mode) (p : Page) (ws : List rules.Entry)
@@ -155,7 +175,7 @@ module _ (E : Env) (at : ℕ → Tree) where
   module _ (N : ℕ) (valid : AllSound (E .table) (length (E .str)) N) (unfolds : (n : ℕ) → n < N → at n ≡ treeOf (E .str) at n (nodeAt (E .table) n)) where
     group-is : (n a i : ℕ) (p : Page) (left : ℕ) (over : Bool) (w : List Entry)
         → left < L .limit → a < n → Well L N p (node n i broken ∷ w)
-        → Onward (after p w over (chosen (rules.fit L (at a) flat (rules.rest L (waiting L at w)) (p .column) (made left)) (λ m s. lays a i m w p s)))
+        → Onward other (after p w over (chosen (rules.fit L (at a) flat (rules.rest L (waiting L at w)) (p .column) (made left)) (λ m s. lays a i m w p s)))
         (visit E n (group a) i broken p left over w)
     unfolding walks
     group-is n a i p left over w h g q =
@@ -163,7 +183,7 @@ module _ (E : Env) (at : ℕ → Tree) where
         ≡ said L at (fit (E .table) (L .width) left (item a flat ∷ reread w) (p .column)) =
         fit-is L at (E .str) (E .table) N valid unfolds left (item a flat ∷ reread w) (p .column) (omega arith)
         (omega (arith, q .stack .0), reread-items N w (nodes-of N _ _ w (q .stack .2))) in
-        as-well (visit E n (group a) i broken p left over w)
+        as-well other (visit E n (group a) i broken p left over w)
         (ap (λ k. after p w over (chosen (rules.fit L (at a) flat k (p .column) (made left)) (λ m s. lays a i m w p s))) (sym (walks-rest L at w))
         ∙ ap (λ v. after p w over (chosen v (λ m s. lays a i m w p s))) tested)
         (decided-is (fit (E .table) (L .width) left (item a flat ∷ reread w) (p .column)) a i p over w)
@@ -171,24 +191,24 @@ module _ (E : Env) (at : ℕ → Tree) where
     -- a node that is due with a step left
     visit-is : (nd : Node) (n i : ℕ) (m : Mode) (p : Page) (left : ℕ) (over : Bool) (w : List Entry)
         → left < L .limit → Sound (length (E .str)) n nd → Well L N p (node n i m ∷ w)
-        → Onward (after p w over (rules.lay L (treeOf (E .str) at n nd) i m (waiting L at w) p (made (suc left)))) (visit E n nd i m p left over w)
+        → Onward other (after p w over (rules.lay L (treeOf (E .str) at n nd) i m (waiting L at w) p (made (suc left)))) (visit E n nd i m p left over w)
     unfolding rules.lay finish whole waiting
     visit-is nil n i m p left over w h g q = ap (after p w over) (visit-goes L _ _ left h)
     visit-is (append a b) n i m p left over w h g q = ap (after p w over) (visit-goes L _ _ left h) ∙ one-is a i m p left over (node b i m ∷ w)
-    visit-is (group a) n i broken p left over w h g q = as-well (visit E n (group a) i broken p left over w) (ap (after p w over) (visit-goes L _ _ left h)) (group-is n a i p left over w h g q)
+    visit-is (group a) n i broken p left over w h g q = as-well other (visit E n (group a) i broken p left over w) (ap (after p w over) (visit-goes L _ _ left h)) (group-is n a i p left over w h g q)
     visit-is (group a) n i flat p left over w h g q = ap (after p w over) (visit-goes L _ _ left h) ∙ one-is a i flat p left over w
     visit-is (flatAlt a b) n i broken p left over w h g q = ap (after p w over) (visit-goes L _ _ left h) ∙ one-is a i broken p left over w
     visit-is (flatAlt a b) n i flat p left over w h g q = ap (after p w over) (visit-goes L _ _ left h) ∙ one-is b i flat p left over w
     visit-is (nest a k way) n i m p left over w h g q = ap (after p w over) (visit-goes L _ _ left h) ∙ one-is a (nested way k i) m p left over w
     visit-is hardline n i m p left over w h g q =
-        subst (Onward _) (ap₂ (λ j o. put L (fed j p) left o w) (next-is L at i w) (or-false over))
-        (as-well (put L (fed (next (waiting L at w) i) p) left (over || false) w) (ap (after p w over) (visit-goes L _ _ left h))
+        subst (Onward other _) (ap₂ (λ j o. put L (fed j p) left o w) (next-is L at i w) (or-false over))
+        (as-well other (put L (fed (next (waiting L at w) i) p) left (over || false) w) (ap (after p w over) (visit-goes L _ _ left h))
         (put-is N p (fed (next (waiting L at w) i) p) left over false w (q .stack .2) (longer-agrees p _ _)))
     visit-is (text o l cols) n i m p left over w h g q =
-        as-well (visit E n (text o l cols) i m p left over w) (ap (after p w over) (visit-goes L _ _ left h))
+        as-well other (visit E n (text o l cols) i m p left over w) (ap (after p w over) (visit-goes L _ _ left h))
         (put-is N p (wrote (take l (drop o (E .str))) cols p) left over _ w (q .stack .2) (longer-agrees p _ _))
     visit-is (annotated a l) n i m p left over w h g q =
-        as-well (visit E n (annotated a l) i m p left over w) (ap (after p w over) (visit-goes L _ _ left h))
+        as-well other (visit E n (annotated a l) i m p left over w) (ap (after p w over) (visit-goes L _ _ left h))
         (event-is n 1 l p left over w (node a i m ∷ mark n l ∷ w) (λ x. andThen x (λ p s. andThen (lays a i m w p s) (λ p s. rules.event L n 0 l p s)))
         (ap (after p w over) (also-false _)
         ∙ finish-same L at N _ _ p (marked 1 l p) w over _ (q .stack .2) (more-agrees p _)
@@ -196,22 +216,23 @@ module _ (E : Env) (at : ℕ → Tree) where
         refl)
     visit-is (union a b) n i m p left over w h g q = ap (after p w over) (visit-goes L _ _ left h) ∙ union-is a b i m p left over w
     visit-is (align a) n i m p left over w h g q = ap (after p w over) (visit-goes L _ _ left h) ∙ one-is a (p .column) m p left over w
-    visit-is fail n i m p left over w h g q = as-well (giveUp p left w) (ap (after p w over) (visit-goes L _ _ left h)) (giveUp-is p left over w)
+    visit-is fail n i m p left over w h g q = as-well other (giveUp p left w) (ap (after p w over) (visit-goes L _ _ left h)) (giveUp-is p left over w)
 
     dueNode-is : (n i : ℕ) (m : Mode) (p : Page) (left : ℕ) (over : Bool) (w : List Entry)
         → left ≤ L .limit → Well L N p (node n i m ∷ w)
-        → Onward (after p w over (rules.lay L (treeOf (E .str) at n (nodeAt (E .table) n)) i m (waiting L at w) p (made left)))
+        → Onward (dueNow left (dueAt (nodeAt (E .table) n) m (waiting L at w) (p .column)))
+        (after p w over (rules.lay L (treeOf (E .str) at n (nodeAt (E .table) n)) i m (waiting L at w) p (made left)))
         (dueNode E n i m p left over w)
     dueNode-is n i m p zero over w h q =
-        ap (λ x. report (after p w over x)) (due-is (nodeAt (E .table) n) n i m p _) ∙ ap report (finish-refused L at p w over _ n _)
+        ap (λ x. seen (after p w over x)) (due-is (nodeAt (E .table) n) n i m p _) ∙ ap seen (finish-refused L at p w over _ n _)
     dueNode-is n i m p (suc left) over w h q =
         visit-is (nodeAt (E .table) n) n i m p left over w (omega arith) (valid n (omega (arith, q .stack .0))) q
 
-    turn-is : (p : Page) (left : ℕ) (over : Bool) (e : Entry) (w : List Entry)
-        → left ≤ L .limit → Well L N p (e ∷ w) → Onward (whole L at p (e ∷ w) over (made left)) (turn E p left over e w)
+    pub turn-is : (p : Page) (left : ℕ) (over : Bool) (e : Entry) (w : List Entry)
+        → left ≤ L .limit → Well L N p (e ∷ w) → Onward (dueTurn p left e w) (whole L at p (e ∷ w) over (made left)) (turn E p left over e w)
     unfolding turn
     turn-is p left over (node n i m) w h q =
-        as-well (dueNode E n i m p left over w)
+        as-well (dueNow left (dueAt (nodeAt (E .table) n) m (waiting L at w) (p .column))) (dueNode E n i m p left over w)
         (whole-node L at p n i m w over _
         ∙ ap (λ t. after p w over (rules.lay L t i m (waiting L at w) p (made left))) (unfolds n (omega (arith, q .stack .0))))
         (dueNode-is n i m p left over w h q)
@@ -227,12 +248,12 @@ module _ (E : Env) (at : ℕ → Tree) where
         go (turn E p left over e w) (turn-next E N valid p left over e w q) (turn-is p left over e w h q)
         (λ p′ left′ over′ w′ h′ q′ less′. run-is turns p′ left′ over′ w′ h′ q′ less′)
       where
-        go : (t : Turned) → Next L N left (3 * left + weight (e ∷ w)) t → Onward (whole L at p (e ∷ w) over (made left)) t
+        go : (t : Turned) → Next L N left (3 * left + weight (e ∷ w)) t → Onward (dueTurn p left e w) (whole L at p (e ∷ w) over (made left)) t
             → ((p′ : Page) (left′ : ℕ) (over′ : Bool) (w′ : List Entry)
             → left′ ≤ L .limit → Well L N p′ w′ → 3 * left′ + weight w′ < turns → run E turns p′ left′ over′ w′ ≡ report (whole L at p′ w′ over′ (made left′)))
             → elim t [ on p′ left′ over′ w′ ↦ run E turns p′ left′ over′ w′ | stop a n left′ ↦ ended E a n left′ ] ≡ report (whole L at p (e ∷ w) over (made left))
         go (on p′ left′ over′ w′) k same ih = ih p′ left′ over′ w′ (omega (arith, k .1)) (k .0) (omega (arith, k .2)) ∙ ap report (sym same)
-        go (stop a n left′) k same ih = sym same
+        go (stop a n left′) k same ih = ap (λ z. z .told) (sym same)
 
 -- the root alone waits, and no step is made
 root-is : (L : Limits) (at : ℕ → Tree) (n : ℕ) → report (whole L at blank (node n 0 broken ∷ []) false (L .limit - L .limit)) ≡ rules.layout L (at n)

@@ -4,7 +4,7 @@ use Prim.Native.Nat.{ℕ}
 use mathlib.Core.Bool.{Bool, true, _&&_}
 use mathlib.Core.List.{List, [], _∷_}
 use lib.Dec.{T, eqb}
-use Rattle.table.specs.Node.{adds, Node, nil, append, group, flatAlt, nest, hardline, text, annotated, union, fail, nodeAt}
+use Rattle.table.specs.Node.{Node, nil, append, group, flatAlt, hardline, text, annotated, union, fail, nodeAt}
 use Rattle.table.specs.Kinds.{kinds, kindAt}
 use Rattle.table.specs.Fault.{columnsRight, faultOf, faultAt, firstFault, check}
 use Rattle.table.specs.Unfold.{treeOver, trees, tree}

@@ -9,7 +9,7 @@ use lib.Dec.{leb, ltb, eqb}
 use Rattle.choice.specs.Pick.{pick}
 use Rattle.table.specs.Fault.{Fault, check}
 use Rattle.table.specs.Unfold.{tree, root, Tree, nil, append, group, flatAlt, nest, hardline, text, annotated, union, align, fail}
-use Rattle.rules.specs.Layout.{Limits, blank, Mode, flat, broken, Entry, Due, brokenGroup, other, number, steps, bytes, events, Outcome, done, failed, refused, lay}
+use Rattle.rules.specs.Layout.{Limits, blank, Mode, flat, broken, Entry, Due, brokenGroup, other, number, steps, bytes, events, Outcome, done, failed, refused, report, lay}
 use Rattle.rules.specs.Call.{Given, buffersRight, limits}
 
 -- Broken has one of three, with node and column: the column is that reached at the node, for a Text at its end.
@@ -132,13 +132,17 @@ endedBefore (done p past s) = whyRefused 13
 endedBefore (failed s) = whyRefused 6
 endedBefore (refused r n s) = whyRefused (number r)
 
--- a run whose limit is one step short of the visit: where it ends with 7 the visit's node is due
+-- what was due where a run ended with 7; `other` where it ended otherwise
+abbrev pub dueIn : Outcome → Due
+dueIn (done p past s) = other
+dueIn (failed s) = other
+dueIn (refused (steps d) n s) = d
+dueIn (refused bytes n s) = other
+dueIn (refused events n s) = other
+
+-- a run whose limit is one step short of the visit: where it ends with 7 the visit's node was due
 abbrev pub atVisit : ℕ → Outcome → WhyReport
-atVisit width (done p past s) = whyRefused 13
-atVisit width (failed s) = whyRefused 6
-atVisit width (refused (steps d) n s) = whyDue width d
-atVisit width (refused bytes n s) = whyRefused 8
-atVisit width (refused events n s) = whyRefused 9
+atVisit width x = pick (eqb (report x .answer) 7) (whyDue width (dueIn x)) (endedBefore x)
 
 -- the run of a tree with this step limit in place of its own
 abbrev pub runTo : Limits → ℕ → Tree → Outcome

@@ -1,0 +1,102 @@
+-- Where a run stops: its whole outcome is that of the rules, and what was due there is read off the last turn (request 2026-01).
+--     reached-is     every state that a run comes through ends as the whole run ends
+--     stop-is        a turn that stops: its report is the run's, and what was due is what the turn had on top
+--     group-due      a Group met broken with no step left: the reason is that of its child, what waits and the column
+-- Assumes nothing.
+use Prim.Native.Nat.{ℕ, zero, _+_, _-_, _*_, _≤_, _<_}
+use mathlib.Core.Path.{_≡_, refl, sym, ap, ap₂, subst, _∙_}
+use mathlib.Core.Bool.{Bool, false}
+use mathlib.Core.List.{List, [], _∷_}
+use native.Mathlib.Omega.{arith}
+use lib.ListN.{length}
+use lib.Dec.{eqb}
+use Rattle.table.specs.Node.{group, nodeAt}
+use Rattle.table.specs.Unfold.{Tree, tree}
+use Rattle.table.specs.Sound.{AllSound}
+use Rattle.table.proofs.Unfolded.{tree-node}
+use Rattle.choice.specs.Pick.{pick}
+use Rattle.rules.specs.Layout.{Page, blank, Mode, broken, Outcome, report, lay}
+use Rattle.rules.specs.Layout as rules
+use Rattle.rules.specs.Why.{told, reason, whyDue, endedBefore, dueIn, atVisit}
+use Rattle.machine.specs.Waiting.{Entry, node}
+use Rattle.machine.specs.Turn.{Env, on, stop, turn, ended}
+use Rattle.machine.specs.Well.{weight, Well}
+use Rattle.machine.specs.Reached.{Reached, start, turned}
+use Rattle.machine.proofs.Kept.{Next, turn-next}
+use Rattle.machine.proofs.Ends.{waiting, finish, whole, whole-node, also-false}
+use Rattle.machine.proofs.Rules.{seen, Onward, dueAt, dueTurn, turn-is}
+
+-- a run that ended with 7 where a Group met broken was due
+visit-told : (W : ℕ) (x : Outcome) (a : Tree) (ws : List rules.Entry) (c : ℕ)
+    → report x .answer ≡ 7 → dueIn x ≡ rules.brokenGroup a ws c → atVisit W x ≡ told (reason W a ws c)
+visit-told W x a ws c e f = ap₂ (λ q d. pick (eqb q 7) (whyDue W d) (endedBefore x)) e f
+
+module _ (E : Env) (N : ℕ) (some : 0 < N) (few : N ≤ 1024) (valid : AllSound (E .table) (length (E .str)) N) (room : E .limits .room ≤ 65536) where
+  abbrev at : ℕ → Tree
+  at = tree (E .table) (E .str)
+
+  -- the whole run
+  abbrev pub outcome : Outcome
+  outcome = lay (E .limits) (at (N - 1)) 0 broken [] blank 0
+
+  -- what holds of every state that the run comes through
+  record Through (p : Page) (left : ℕ) (over : Bool) (w : List Entry) : Type 0 where
+    well : Well (E .limits) N p w
+    within : left ≤ E .limits .limit
+    same : whole (E .limits) at p w over (E .limits .limit - left) ≡ outcome
+
+  starts : Through blank (E .limits .limit) false (node (N - 1) 0 broken ∷ [])
+  unfolding finish waiting
+  starts =
+      let e : E .limits .limit - E .limits .limit ≡ 0 = omega arith in
+      record {
+        well = record { column = omega arith; fits = omega arith; room = room; stack = (omega arith, omega arith, tt) };
+        within = omega arith;
+        same =
+            whole-node (E .limits) at blank (N - 1) 0 broken [] false _
+            ∙ also-false (lay (E .limits) (at (N - 1)) 0 broken [] blank (E .limits .limit - E .limits .limit))
+            ∙ ap (lay (E .limits) (at (N - 1)) 0 broken [] blank) e;
+      }
+
+  -- where a turn leads from there
+  leads : {p : Page} {left : ℕ} {over : Bool} {e : Entry} {w : List Entry} → Through p left over (e ∷ w)
+      → Onward E at (dueTurn E at p left e w) (whole (E .limits) at p (e ∷ w) over (E .limits .limit - left)) (turn E p left over e w)
+  leads {p} {left} {over} {e} {w} h =
+      turn-is E at N valid (λ n l. tree-node (E .table) (E .str) n (length (E .str)) (valid n l)) p left over e w (h .within) (h .well)
+
+  goes-on : {p p′ : Page} {left left′ : ℕ} {over over′ : Bool} {e : Entry} {w w′ : List Entry}
+      → Through p left over (e ∷ w) → turn E p left over e w ≡ on p′ left′ over′ w′ → Through p′ left′ over′ w′
+  goes-on {p} {p′} {left} {left′} {over} {over′} {e} {w} {w′} h t =
+      let next = subst (λ x. Next (E .limits) N left (3 * left + weight (e ∷ w)) x) t (turn-next E N valid p left over e w (h .well)) in
+      let same = subst (λ x. Onward E at (dueTurn E at p left e w) (whole (E .limits) at p (e ∷ w) over (E .limits .limit - left)) x) t (leads h) in
+      record { well = next .0; within = omega (arith, next .1, h .within); same = sym same ∙ h .same }
+
+  through : {p : Page} {left : ℕ} {over : Bool} {w : List Entry} → Reached E (N - 1) p left over w → Through p left over w
+  through start = starts
+  through (turned r t) = goes-on (through r) t
+
+  pub reached-is : {p : Page} {left : ℕ} {over : Bool} {w : List Entry}
+      → Reached E (N - 1) p left over w → whole (E .limits) at p w over (E .limits .limit - left) ≡ outcome
+  reached-is r = through r .same
+
+  pub stop-is : {p : Page} {left : ℕ} {over : Bool} {e : Entry} {w : List Entry} (a n left′ : ℕ)
+      → Reached E (N - 1) p left over (e ∷ w) → turn E p left over e w ≡ stop a n left′
+      → seen outcome ≡ record { told = ended E a n left′; due = dueTurn E at p left e w }
+  stop-is {p} {left} {over} {e} {w} a n left′ r t =
+      ap seen (sym (reached-is r))
+      ∙ subst (λ x. Onward E at (dueTurn E at p left e w) (whole (E .limits) at p (e ∷ w) over (E .limits .limit - left)) x) t (leads (through r))
+
+  -- a node that is due with no step left
+  pub due-node : {p : Page} {over : Bool} {w : List Entry} (n i : ℕ) (m : Mode)
+      → Reached E (N - 1) p zero over (node n i m ∷ w)
+      → seen outcome ≡ record { told = ended E 7 n 0; due = dueAt E at (nodeAt (E .table) n) m (waiting (E .limits) at w) (p .column) }
+  unfolding turn
+  due-node n i m r = stop-is 7 n 0 r refl
+
+  pub group-due : {p : Page} {over : Bool} {w : List Entry} (n i a : ℕ)
+      → Reached E (N - 1) p zero over (node n i broken ∷ w) → nodeAt (E .table) n ≡ group a
+      → (W : ℕ) → atVisit W outcome ≡ told (reason W (at a) (waiting (E .limits) at w) (p .column))
+  group-due {p} {over} {w} n i a r e W =
+      let s = due-node n i broken r in
+      visit-told W outcome (at a) (waiting (E .limits) at w) (p .column) (ap (λ z. z .told .answer) s)
+      (ap (λ z. z .due) s ∙ ap (λ x. dueAt E at x broken (waiting (E .limits) at w) (p .column)) e)
