@@ -8,7 +8,8 @@ use lib.ListN.{length, getD}
 use lib.Dec.{eqb, leb}
 use Rattle.choice.specs.Pick.{pick}
 use Rattle.table.specs.Unfold.{tree}
-use Rattle.table.specs.Node.{nodeAt}
+use Rattle.table.specs.Node.{nodeOf, nodeAt}
+use Rattle.table.specs.declared.Words.{Words}
 use Rattle.table.specs.Sound.{Sound, AllSound}
 use Rattle.rules.specs.Why as why
 use Rattle.rules.specs.Why.{modeIf, firstIn}
@@ -17,6 +18,10 @@ use Rattle.summary.specs.declared.Step.{Step}
 use Rattle.summary.specs.declared.Step.the-variants.{Down, Ends}
 use Rattle.summary.specs.declared.Met.{Met}
 use Rattle.summary.specs.declared.Met.the-variants.{Through, AtFail, HardlineInside, HardlineAfter, TextPast}
+
+-- the words of node n
+pub record Reads (table : List ℕ) (n : ℕ) (w : Words) : Type 0 where
+  pub node : nodeAt table n ≡ nodeOf (w .kind) (w .a) (w .b) (w .c)
 
 -- where node n's summary stands: broken first, then flat
 abbrev pub placeOf : ℕ → Bool → ℕ

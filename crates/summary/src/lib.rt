@@ -6,10 +6,11 @@
 // Nothing here is an entry point of the library: each function says what it asks of its caller.
 use table::Column;
 use table::NodeNo;
+use table::Words;
 ghost use mathlib.Core.Path.{_≡_};
 ghost use Prim.Native.Nat.{_+_, _*_, _/_, _≤_, _<_};
 ghost use lib.ListN.{length, getD};
-ghost use Rattle.summary.specs.Promise.{placeOf, joinWords, Room, Says, Below, Summarized, Asked, Leads, Stepped, metOf};
+ghost use Rattle.summary.specs.Promise.{placeOf, joinWords, Room, Says, Reads, Below, Summarized, Asked, Leads, Stepped, metOf};
 
 // A Fail or a Hardline stops the walk, or its Texts have more columns than any width.
 const NEVER: u32 = 65538;
@@ -59,26 +60,38 @@ fn joined(first: u32, second: u32) -> u32
     }
 }
 
+// A node's words.
+fn words_at(table: &[u32], node: u32) -> Words
+    requires { ⌜ (node < 1024) × (node * 4 + 4 ≤ length (now table)) ⌝ }
+    ensures { λ r. ⌜ Reads (now (table .entry)) node r ⌝ }
+{
+    let at = (node as usize) * 4;
+    Words {
+        kind: table[at],
+        a: table[at + 1],
+        b: table[at + 2],
+        c: table[at + 3],
+    }
+}
+
 // The summary of a node, by those of the nodes below it.
 fn node_summary(table: &[u32], memo: &[u32], node: u32, flat: bool) -> u32
     requires { ⌜ Below (now table) (now memo) node ⌝ }
     ensures { λ r. ⌜ Says (now (table .entry)) node flat r ⌝ }
 {
-    let at = (node as usize) * 4;
-    let kind = table[at];
-    let a = table[at + 1];
-    let b = table[at + 2];
+    let w = words_at(table, node);
+    let kind = w.kind;
     match kind {
         0 => 0,
-        1 => joined(summary_at(memo, a, flat), summary_at(memo, b, flat)),
-        2 | 4 | 7 | 9 => summary_at(memo, a, flat),
+        1 => joined(summary_at(memo, w.a, flat), summary_at(memo, w.b, flat)),
+        2 | 4 | 7 | 9 => summary_at(memo, w.a, flat),
         3 => if flat {
-            summary_at(memo, b, flat)
+            summary_at(memo, w.b, flat)
         } else {
-            summary_at(memo, a, flat)
+            summary_at(memo, w.a, flat)
         },
-        6 => table[at + 3] + 1,
-        8 => summary_at(memo, b, flat),
+        6 => w.c + 1,
+        8 => summary_at(memo, w.b, flat),
         _ => NEVER,
     }
 }
@@ -113,29 +126,27 @@ fn step_down(
     requires { ⌜ Asked (now table) (now memo) (node .0) (column .0) width (length (now table) / 4) ⌝ }
     ensures { λ r. ⌜ Stepped (now (table .entry)) (node .0) flat (column .0) width r ⌝ }
 {
-    let at = (node.0 as usize) * 4;
-    let kind = table[at];
-    let a = table[at + 1];
-    let b = table[at + 2];
+    let w = words_at(table, node.0);
+    let kind = w.kind;
     match kind {
         0 => Step::Ends(Met::Through(column)),
         1 => {
-            let first = summary_at(memo, a, flat);
+            let first = summary_at(memo, w.a, flat);
             if first == 0 {
-                return Step::Down(NodeNo(b), column);
+                return Step::Down(NodeNo(w.b), column);
             }
             let end = column.0 + (first - 1);
             if end <= width {
-                Step::Down(NodeNo(b), Column(end))
+                Step::Down(NodeNo(w.b), Column(end))
             } else {
-                Step::Down(NodeNo(a), column)
+                Step::Down(NodeNo(w.a), column)
             }
         }
-        2 | 4 | 7 | 9 => Step::Down(NodeNo(a), column),
+        2 | 4 | 7 | 9 => Step::Down(NodeNo(w.a), column),
         3 => if flat {
-            Step::Down(NodeNo(b), column)
+            Step::Down(NodeNo(w.b), column)
         } else {
-            Step::Down(NodeNo(a), column)
+            Step::Down(NodeNo(w.a), column)
         },
         5 => if flat {
             Step::Ends(Met::HardlineInside(node, column))
@@ -143,14 +154,14 @@ fn step_down(
             Step::Ends(Met::HardlineAfter(node))
         },
         6 => {
-            let end = column.0 + table[at + 3];
+            let end = column.0 + w.c;
             if end <= width {
                 Step::Ends(Met::Through(Column(end)))
             } else {
                 Step::Ends(Met::TextPast(node, Column(end)))
             }
         }
-        8 => Step::Down(NodeNo(b), column),
+        8 => Step::Down(NodeNo(w.b), column),
         _ => Step::Ends(Met::AtFail(node, column)),
     }
 }
