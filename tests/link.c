@@ -122,7 +122,7 @@ static void call(char **part, enum form form)
     words(part[5], &answer);
     used_len = bytes(part[6], &used);
     marks_len = words(part[7], &marks);
-    size_t room = sizes[0], slots = sizes[1], work_len = sizes[2], report_len = sizes[3], words_len = slots * 3;
+    size_t room = sizes[0], slots = sizes[1], work_len = sizes[2], report_len = sizes[3], words_len = slots * PURSEGABLE_EVENT_WORDS;
     uint32_t *table_was = malloc(table_len * 4 + 1);
     uint8_t *text_was = malloc(text_len + 1);
     memcpy(table_was, table, table_len * 4);
@@ -153,11 +153,11 @@ static void call(char **part, enum form form)
     same("the events", events, zero, words_len, 4);
     memset(zero, 0, marks_len * 4);
     same("the work area", work, zero, work_len, 4);
-    want_report = calloc(report_len + 5, 4);
+    want_report = calloc(report_len + PURSEGABLE_REPORT_WORDS, 4);
     if (report_len >= PURSEGABLE_REPORT_WORDS) {
         memcpy(want_report, answer, 3 * 4);
-        want_report[3] = (uint32_t)used_len;
-        want_report[4] = (uint32_t)(marks_len / 3);
+        want_report[PURSEGABLE_REPORT_BYTES] = (uint32_t)used_len;
+        want_report[PURSEGABLE_REPORT_EVENTS] = (uint32_t)(marks_len / PURSEGABLE_EVENT_WORDS);
     }
     same("the report", report, want_report, report_len, 4);
     same("the table", table, table_was, table_len, 4);
@@ -266,11 +266,11 @@ static void lay(char **part)
     words(part[1], &answer);
     n = bytes(part[2], &want);
     pursegable_event one;
-    uint32_t r = pursegable_layout(table, 4 * ((size_t)at[0] + 1), text, counts[1], at[1], 1000000, out, sizeof out, &one, 1, work, PURSEGABLE_WORK_WORDS, report, PURSEGABLE_REPORT_WORDS);
+    uint32_t r = pursegable_layout(table, 4 * ((size_t)at[0] + 1), text, counts[PURSEGABLE_COUNTS_BYTES], at[1], 1000000, out, sizeof out, &one, 1, work, PURSEGABLE_WORK_WORDS, report, PURSEGABLE_REPORT_WORDS);
     calls++;
     equal("the answer", r, answer[0]);
     same("the report", report, answer, 3, 4);
-    equal("the used bytes", report[3], n);
+    equal("the used bytes", report[PURSEGABLE_REPORT_BYTES], n);
     same("the output", out, want, n, 1);
     free(at), free(answer), free(want), free(work);
 }
@@ -292,8 +292,10 @@ int main(int argc, char **argv)
             unsigned long width = strtoul(part[1], NULL, 10), limit = strtoul(strchr(part[1] + 1, ' '), NULL, 10);
             call(part, LAYOUT);
             call(part, WORDS);
-            if (width == 42 && limit == 1000000)
-                call(part, SHEET), call(part, LABEL);
+            if (width == PURSEGABLE_SHEET_WIDTH && limit == PURSEGABLE_DEFAULT_STEPS)
+                call(part, SHEET);
+            if (width == PURSEGABLE_LABEL_WIDTH && limit == PURSEGABLE_DEFAULT_STEPS)
+                call(part, LABEL);
         } else if (!strncmp(line, "counts", 6) && n == 2) {
             lend_sheet(part);
         } else if (!strncmp(line, "holds", 5) && n == 3) {

@@ -1,12 +1,15 @@
-//! Runs tests/cases.txt through the safe functions, and those with a report of another length through the exports, and checks every
-//! element of every buffer afterwards.
+//! Runs tests/cases.txt through the exports, and what of it can be asked for there through the layout functions, drafts and strips. Every
+//! element of every buffer is looked at afterwards.
 
-use pursegable::{label, layout, layout_words, raw, sheet, Builder, Event, Make, Report, WORK_WORDS};
+use pursegable::sizes::{DEFAULT_STEPS, EVENT_WORDS, LABEL_WIDTH, REPORT_WORDS, SHEET_WIDTH, WORK_WORDS};
+use pursegable::{Draft, Event, Laid, Node, Refusal, Refused, Strip, label, layout, raw, sheet};
 
 const CASES: &str = include_str!("../../tests/cases.txt");
 const BYTE: u8 = 0xa5;
 const WORD: u32 = 0xa5a5_a5a5;
-const EVENT: Event = Event { offset: WORD, mark: WORD, label: WORD };
+const EVENT: Event = Event::from_words([WORD; EVENT_WORDS]);
+
+// ---- reading the cases
 
 fn words(s: &str) -> Vec<u32> {
     s.split_whitespace()
@@ -34,153 +37,363 @@ fn padded<T: Copy>(used: &[T], size: usize, zero: T) -> Vec<T> {
     all
 }
 
-#[test]
-fn calls() {
-    let mut count = 0;
-    for line in CASES.lines().filter(|l| l.starts_with("call")) {
+// ---- calls
+
+/// A line that starts with `call`: what is asked, what is lent and what must be there afterwards.
+struct Case<'a> {
+    line: &'a str,
+    width: u32,
+    limit: u32,
+    room: usize,
+    slots: usize,
+    work: usize,
+    report: usize,
+    table: Vec<u32>,
+    text: Vec<u8>,
+    answer: [u32; 3],
+    used: Vec<u8>,
+    marks: Vec<u32>,
+}
+
+/// `raw::sheet` and `raw::label`.
+type ByDefault = fn(&[u32], &[u8], &mut [u8], &mut [Event], &mut [u32], &mut [u32]) -> u32;
+
+/// Buffers of a case's lengths.
+struct Lent {
+    out: Vec<u8>,
+    events: Vec<Event>,
+    work: Vec<u32>,
+    report: Vec<u32>,
+}
+
+impl<'a> Case<'a> {
+    fn read(line: &'a str) -> Self {
         let part: Vec<&str> = line.split('|').collect();
-        let (at, sizes, table, text, want) = (words(part[1]), words(part[2]), words(part[3]), bytes(part[4]), words(part[5]));
-        let (used, marks) = (bytes(part[6]), words(part[7]));
-        let sizes: Vec<usize> = sizes.iter().map(|n| *n as usize).collect();
-        let records: Vec<Event> = marks.chunks(3).map(|e| Event { offset: e[0], mark: e[1], label: e[2] }).collect();
-        let report = Report { answer: want[0], place: want[1], steps: want[2], bytes: used.len(), events: records.len() };
-        let lend = || (vec![BYTE; sizes[0]], vec![EVENT; sizes[1]], vec![WORD; sizes[2]], vec![WORD; sizes[3]]);
-        let check = |name: &str, out: &[u8], events: &[Event], work: &[u32]| {
-            assert_eq!(out, padded(&used, sizes[0], 0), "{name}: the output of {line}");
-            assert_eq!(events, padded(&records, sizes[1], Event::default()), "{name}: the events of {line}");
-            assert!(work.iter().all(|w| *w == 0), "{name}: the work area of {line}");
-        };
-
-        // the export, with the report's own length
-        let (mut out, mut events, mut work, mut told) = lend();
-        let answer = unsafe {
-            raw::pursegable_layout(table.as_ptr(), table.len(), text.as_ptr(), text.len(), at[0], at[1], out.as_mut_ptr(), out.len(), events.as_mut_ptr(), events.len(), work.as_mut_ptr(), work.len(), told.as_mut_ptr(), told.len())
-        };
-        assert_eq!(answer, want[0], "the answer of {line}");
-        check("pursegable_layout", &out, &events, &work);
-        let five = [want[0], want[1], want[2], used.len() as u32, records.len() as u32];
-        let room = if sizes[3] < 5 { &[][..] } else { &five[..] };
-        assert_eq!(told, padded(room, sizes[3], 0), "the report of {line}");
-        count += 1;
-
-        // the safe functions, which always have room for the report
-        if sizes[3] < 5 {
-            continue;
-        }
-        let (mut out, mut events, mut work, _) = lend();
-        assert_eq!(layout(&table, &text, at[0], at[1], &mut out, &mut events, &mut work), report, "{line}");
-        check("layout", &out, &events, &work);
-        let (mut out, _, mut work, _) = lend();
-        let mut flat = vec![WORD; 3 * sizes[1]];
-        assert_eq!(layout_words(&table, &text, at[0], at[1], &mut out, &mut flat, &mut work), report, "{line}");
-        assert_eq!(flat, padded(&marks, flat.len(), 0), "the events' words of {line}");
-        check("layout_words", &out, &padded(&records, sizes[1], Event::default()), &work);
-        count += 2;
-        if at == [42, 1_000_000] {
-            let (mut out, mut events, mut work, _) = lend();
-            assert_eq!(sheet(&table, &text, &mut out, &mut events, &mut work), report, "{line}");
-            check("sheet", &out, &events, &work);
-            let (mut out, mut events, mut work, _) = lend();
-            assert_eq!(label(&table, &text, &mut out, &mut events, &mut work), report, "{line}");
-            check("label", &out, &events, &work);
-            count += 2;
+        let (at, sizes) = (words(part[1]), words(part[2]));
+        let size = |i: usize| sizes[i] as usize;
+        Case {
+            line,
+            width: at[0],
+            limit: at[1],
+            room: size(0),
+            slots: size(1),
+            work: size(2),
+            report: size(3),
+            table: words(part[3]),
+            text: bytes(part[4]),
+            answer: words(part[5]).try_into().unwrap(),
+            used: bytes(part[6]),
+            marks: words(part[7]),
         }
     }
-    assert!(count > 100, "only {count} calls");
+
+    fn lend(&self) -> Lent {
+        Lent {
+            out: vec![BYTE; self.room],
+            events: vec![EVENT; self.slots],
+            work: vec![WORD; self.work],
+            report: vec![WORD; self.report],
+        }
+    }
+
+    fn records(&self) -> Vec<Event> {
+        self.marks.chunks(EVENT_WORDS).map(|words| Event::from_words(words.try_into().unwrap())).collect()
+    }
+
+    fn same_buffers(&self, name: &str, lent: &Lent) {
+        assert_eq!(lent.out, padded(&self.used, self.room, 0), "{name}: the output of {}", self.line);
+        assert_eq!(lent.events, padded(&self.records(), self.slots, Event::default()), "{name}: the events of {}", self.line);
+        assert!(lent.work.iter().all(|w| *w == 0), "{name}: the work area of {}", self.line);
+    }
+
+    fn same_report(&self, name: &str, answer: u32, report: &[u32]) {
+        let [number, place, steps] = self.answer;
+        let (used, marks) = (u32::try_from(self.used.len()).unwrap(), u32::try_from(self.records().len()).unwrap());
+        let all = [number, place, steps, used, marks];
+        let told = if self.report < REPORT_WORDS { &[][..] } else { &all[..] };
+        assert_eq!(answer, number, "{name}: the answer of {}", self.line);
+        assert_eq!(report, padded(told, self.report, 0), "{name}: the report of {}", self.line);
+    }
+
+    fn same_result(&self, name: &str, result: Result<Laid, Refused>) {
+        let [number, place, steps] = self.answer;
+        match result {
+            Ok(laid) => {
+                assert_eq!((0, laid.place, laid.steps), (number, None, steps), "{name}: {}", self.line);
+                assert_eq!(laid.bytes, self.used, "{name}: {}", self.line);
+                assert_eq!(laid.events().collect::<Vec<_>>(), self.records(), "{name}: {}", self.line);
+            }
+            Err(refused) => {
+                let told = refused.place.map_or(0, Node::number);
+                assert_eq!((refused.why.number(), told, refused.steps), (number, place, steps), "{name}: {}", self.line);
+                assert_eq!(refused.place.is_some(), [2, 3, 4, 5, 7, 9].contains(&number), "{name}: {}", self.line);
+            }
+        }
+    }
+
+    /// By the exports; how many calls.
+    fn by_exports(&self) -> usize {
+        let (table, text, width, limit) = (&self.table, &self.text, self.width, self.limit);
+        let mut lent = self.lend();
+        let Lent { out, events, work, report } = &mut lent;
+        let answer = raw::layout(table, text, width, limit, out, events, work, report);
+        self.same_buffers("raw::layout", &lent);
+        self.same_report("raw::layout", answer, &lent.report);
+
+        let mut lent = self.lend();
+        let mut flat = vec![WORD; EVENT_WORDS * self.slots];
+        let Lent { out, events, work, report } = &mut lent;
+        let answer = raw::layout_words(table, text, width, limit, out, &mut flat, work, report);
+        assert_eq!(flat, padded(&self.marks, flat.len(), 0), "the events' words of {}", self.line);
+        events.copy_from_slice(&padded(&self.records(), self.slots, Event::default()));
+        self.same_buffers("raw::layout_words", &lent);
+        self.same_report("raw::layout_words", answer, &lent.report);
+        let mut count = 2;
+        for (name, width, call) in
+            [("raw::sheet", SHEET_WIDTH, raw::sheet as ByDefault), ("raw::label", LABEL_WIDTH, raw::label)]
+        {
+            if self.at(width) {
+                let mut lent = self.lend();
+                let Lent { out, events, work, report } = &mut lent;
+                let answer = call(table, text, out, events, work, report);
+                self.same_buffers(name, &lent);
+                self.same_report(name, answer, &lent.report);
+                count += 1;
+            }
+        }
+        count
+    }
+
+    /// By the safe functions, which always have room for the report; how many calls.
+    fn by_slices(&self) -> usize {
+        if self.report < REPORT_WORDS {
+            return 0;
+        }
+        let mut lent = self.lend();
+        let Lent { out, events, work, .. } = &mut lent;
+        self.same_result("layout", layout(&self.table, &self.text, self.width, self.limit, out, events, work));
+        self.same_buffers("layout", &lent);
+        let mut count = 1;
+        if self.at(SHEET_WIDTH) {
+            let mut lent = self.lend();
+            let Lent { out, events, work, .. } = &mut lent;
+            self.same_result("sheet", sheet(&self.table, &self.text, out, events, work));
+            self.same_buffers("sheet", &lent);
+            count += 1;
+        }
+        if self.at(LABEL_WIDTH) {
+            let mut lent = self.lend();
+            let Lent { out, events, work, .. } = &mut lent;
+            self.same_result("label", label(&self.table, &self.text, out, events, work));
+            self.same_buffers("label", &lent);
+            count += 1;
+        }
+        count
+    }
+
+    /// Whether this is what the functions ask that take no width, this one being theirs.
+    fn at(&self, width: u32) -> bool {
+        (self.width, self.limit) == (width, DEFAULT_STEPS)
+    }
+}
+
+#[test]
+fn calls() {
+    let cases = CASES.lines().filter(|line| line.starts_with("call")).map(Case::read);
+    let count: usize = cases.map(|case| case.by_exports() + case.by_slices()).sum();
+    assert!(count > 200, "only {count} calls");
     println!("cases.rs: {count} calls as they should be");
 }
 
-fn make(w: &[u32]) -> Option<Make> {
-    let (a, b, c) = (w[1], w[2], w[3]);
+// ---- constructors
+
+/// What a script builds in: the exports over any counts, or a draft.
+trait Builder {
+    /// The constructor of a line, called; nothing if it can't be asked for here.
+    fn construct(&mut self, name: &str, args: &str, part: &[&str]) -> Option<Result<Node, Refusal>>;
+    /// The counts afterwards: nodes and bytes, and what else there is.
+    fn counts(&self) -> Vec<u32>;
+    fn lay(&mut self, node: Node, width: u32, strip: &mut Strip, look: &mut dyn FnMut(Result<Laid, Refused>));
+}
+
+struct Exports<'a> {
+    table: &'a mut [u32],
+    text: &'a mut [u8],
+    counts: Vec<u32>,
+}
+
+impl Builder for Exports<'_> {
+    fn construct(&mut self, name: &str, args: &str, part: &[&str]) -> Option<Result<Node, Refusal>> {
+        let Exports { table, text, counts } = self;
+        let answer = match name {
+            "text" => {
+                let (b, columns) = args.split_once(' ').unwrap();
+                raw::text(&bytes(b), words(columns)[0], table, text, counts)
+            }
+            "make" => {
+                let w = words(args);
+                raw::make(w[0], w[1], w[2], w[3], table, text, counts)
+            }
+            "concat" => raw::concat(&words(args), table, text, counts),
+            "intersperse" => {
+                let w = words(args);
+                raw::intersperse(&w[1..], w[0], table, text, counts)
+            }
+            "block" => {
+                let (w, flags) = (words(args), words(part[3]));
+                let flags: Vec<u8> = flags.iter().map(|flag| u8::try_from(*flag).unwrap()).collect();
+                raw::block(w[0], w[1], w[2], &words(part[1]), &words(part[2]), &flags, table, text, counts)
+            }
+            _ => panic!("what is {name}?"),
+        };
+        Some(match Refusal::from_number(answer) {
+            None => Ok(Node::from_number(counts[2])),
+            Some(refusal) => Err(refusal),
+        })
+    }
+
+    fn counts(&self) -> Vec<u32> {
+        self.counts.clone()
+    }
+
+    fn lay(&mut self, node: Node, width: u32, _: &mut Strip, look: &mut dyn FnMut(Result<Laid, Refused>)) {
+        let (words, bytes) = (4 * (node.number() as usize + 1), self.counts[1] as usize);
+        let (mut out, mut events, mut work) = ([BYTE; 64], [EVENT; 1], vec![WORD; WORK_WORDS]);
+        look(layout(&self.table[..words], &self.text[..bytes], width, 1_000_000, &mut out, &mut events, &mut work));
+    }
+}
+
+/// An amount of the table's words as a draft takes it; nothing if there is no such way.
+fn signed(amount: u32, way: u32) -> Option<i32> {
+    let amount = i32::try_from(amount).ok()?;
+    match way {
+        0 => Some(amount),
+        1 => Some(-amount),
+        _ => None,
+    }
+}
+
+fn made(draft: &Draft, w: &[u32]) -> Option<Result<Node, Refusal>> {
+    let [a, b, c] = [w[1], w[2], w[3]].map(Node::from_number);
     Some(match w[0] {
-        0 => Make::Nil,
-        1 => Make::Append(a, b),
-        2 => Make::Group(a),
-        3 => Make::FlatAlt(a, b),
-        4 => Make::Nest(a, b, c),
-        5 => Make::Hardline,
-        7 => Make::Annotate(a, b),
-        8 => Make::Union(a, b),
-        9 => Make::Align(a),
-        10 => Make::Fail,
-        11 => Make::Space,
-        12 => Make::Line,
-        13 => Make::LineOrNil,
-        14 => Make::Softline,
-        15 => Make::SoftlineOrNil,
-        16 => Make::Hang(a, b, c),
-        17 => Make::Indent(a, b),
-        18 => Make::Enclose(a, b, c),
+        0 => draft.nil(),
+        1 => draft.append(a, b),
+        2 => draft.group(a),
+        3 => draft.flat_alt(a, b),
+        4 => draft.nest(a, signed(w[2], w[3])?),
+        5 => draft.hardline(),
+        7 => draft.annotate(a, w[2]),
+        8 => draft.union(a, b),
+        9 => draft.align(a),
+        10 => draft.fail(),
+        11 => draft.space(),
+        12 => draft.line(),
+        13 => draft.line_(),
+        14 => draft.softline(),
+        15 => draft.softline_(),
+        16 => draft.hang(a, signed(w[2], w[3])?),
+        17 => draft.indent(a, w[2]),
+        18 => draft.enclose(a, b, c),
         _ => return None,
     })
 }
 
-/// The constructor of a line, called; nothing if the builder can't be asked for it.
-fn construct(builder: &mut Builder, part: &[&str]) -> Option<Result<u32, u32>> {
-    let (name, args) = part[0].trim().split_once(' ').unwrap_or((part[0].trim(), ""));
-    Some(match name {
-        "make" => builder.make(make(&words(args))?),
-        "text" => {
-            let (b, c) = args.split_once(' ').unwrap();
-            builder.text(&bytes(b), words(c)[0])
-        }
-        "concat" => builder.concat(&words(args)),
-        "block" => {
-            let flags: Vec<bool> = words(part[3]).iter().map(|byte| *byte != 0).collect();
-            let w = words(args);
-            builder.block(w[0], w[1], w[2], &words(part[1]), &words(part[2]), &flags)
-        }
-        "intersperse" => {
-            let w = words(args);
-            builder.intersperse(&w[1..], w[0])
-        }
-        _ => panic!("what is {name}?"),
-    })
+impl Builder for Draft<'_> {
+    fn construct(&mut self, name: &str, args: &str, part: &[&str]) -> Option<Result<Node, Refusal>> {
+        let nodes = |s: &str| words(s).into_iter().map(Node::from_number).collect::<Vec<_>>();
+        Some(match name {
+            "text" => {
+                let (b, columns) = args.split_once(' ').unwrap();
+                self.text_bytes(&bytes(b), words(columns)[0])
+            }
+            "make" => made(self, &words(args))?,
+            "concat" => self.concat(nodes(args)),
+            "intersperse" => self.intersperse(nodes(args)[1..].iter().copied(), nodes(args)[0]),
+            "block" => {
+                let (w, flags) = (words(args), words(part[3]));
+                let (prefixes, suffixes) = (nodes(part[1]), nodes(part[2]));
+                let amount = signed(w[1], w[2])?;
+                if prefixes.len() != suffixes.len() || prefixes.len() != flags.len() {
+                    return None;
+                }
+                let mut block = self.block(Node::from_number(w[0]));
+                for ((prefix, suffix), flag) in prefixes.into_iter().zip(suffixes).zip(flags) {
+                    block = if flag == 0 { block.affix(prefix, suffix) } else { block.nested(prefix, suffix) };
+                }
+                block.format(amount)
+            }
+            _ => panic!("what is {name}?"),
+        })
+    }
+
+    fn counts(&self) -> Vec<u32> {
+        [self.nodes(), self.bytes()].map(|count| u32::try_from(count).unwrap()).to_vec()
+    }
+
+    fn lay(&mut self, node: Node, width: u32, strip: &mut Strip, look: &mut dyn FnMut(Result<Laid, Refused>)) {
+        look(strip.layout(self, node, width, 1_000_000));
+    }
 }
 
-/// Lays a node out; `lay NODE WIDTH | answer place steps | output`.
-fn lay(builder: &Builder, part: &[&str]) {
-    let (at, want, used) = (words(&part[0]["lay".len()..]), words(part[1]), bytes(part[2]));
-    let (table, text) = builder.upto(at[0]);
-    let (mut out, mut events, mut work) = (vec![BYTE; used.len()], [EVENT; 1], vec![WORD; WORK_WORDS]);
-    let report = layout(table, text, at[1], 1_000_000, &mut out, &mut events, &mut work);
-    assert_eq!(report, Report { answer: want[0], place: want[1], steps: want[2], bytes: used.len(), events: 0 }, "{part:?}");
-    assert_eq!(out, used, "{part:?}");
-}
-
-/// A script in buffers of these sizes; how many constructors and layouts it has.
-fn run(head: &str, script: &[&str]) -> usize {
-    let sizes = words(head.split('|').nth(1).unwrap());
-    let (mut table, mut text) = (vec![WORD; sizes[0] as usize], vec![BYTE; sizes[1] as usize]);
-    let mut builder = Builder::new(&mut table, &mut text);
-    let (mut count, mut held) = (0, None);
-    for line in script {
+/// The lines of a script but the one that says what the buffers hold; how many constructors and layouts were called.
+fn follow(builder: &mut dyn Builder, script: &[&str]) -> usize {
+    let mut strip = Strip::with_room(64, 1);
+    let mut count = 0;
+    for line in script.iter().filter(|line| !line.starts_with("holds")) {
         let part: Vec<&str> = line.split('|').collect();
-        if line.starts_with("holds") {
-            held = Some((words(part[1]), bytes(part[2])));
-        } else if line.starts_with("lay") {
-            lay(&builder, &part);
+        let (name, args) = part[0].trim().split_once(' ').unwrap_or((part[0].trim(), ""));
+        let want = words(part[if name == "lay" { 1 } else { part.len() - 1 }]);
+        if name == "lay" {
+            let at = words(args);
+            builder.lay(Node::from_number(at[0]), at[1], &mut strip, &mut |result| {
+                let laid = result.unwrap();
+                assert_eq!(([0, 0, laid.steps], laid.bytes), ([want[0], want[1], want[2]], &bytes(part[2])[..]), "{line}");
+            });
             count += 1;
-        } else if let Some(got) = construct(&mut builder, &part) {
-            let want = words(part.last().unwrap());
-            assert_eq!(got, if want[0] == 0 { Ok(want[3]) } else { Err(want[0]) }, "{line}");
-            assert_eq!(builder.counts(), (want[1] as usize, want[2] as usize), "{line}");
+        } else if let Some(got) = builder.construct(name, args, &part) {
+            let counts = builder.counts();
+            assert_eq!(counts[..], want[1..=counts.len()], "the counts after {line}");
+            assert_eq!(got.map_or_else(Refusal::number, |_| 0), want[0], "{line}");
+            if let Ok(node) = got {
+                assert_eq!(node.number(), want[3], "{line}");
+            }
             count += 1;
+        } else {
+            assert_ne!(want[0], 0, "what can't be asked for changes nothing: {line}");
         }
     }
-    let (w, b) = held.expect("a script ends with what it holds");
-    assert_eq!(table, padded(&w, table.len(), WORD), "the table of {head}");
-    assert_eq!(text, padded(&b, text.len(), BYTE), "the text of {head}");
     count
 }
 
-/// The scripts that start with no node: the builder can't be given other counts.
+/// A script in buffers of its sizes, by the exports and, if it starts with no node, by a draft.
+fn run(head: &str, script: &[&str]) -> usize {
+    let (start, sizes) = head["counts".len()..].split_once('|').unwrap();
+    let (start, sizes) = (words(start), words(sizes));
+    let mut count = 0;
+    for by_draft in [false, true] {
+        if by_draft && start != [0, 0, 0] {
+            continue;
+        }
+        let (mut table, mut text) = (vec![WORD; sizes[0] as usize], vec![BYTE; sizes[1] as usize]);
+        count += if by_draft {
+            follow(&mut Draft::lent(&mut table, &mut text), script)
+        } else {
+            follow(&mut Exports { table: &mut table, text: &mut text, counts: start.clone() }, script)
+        };
+        let last = script.iter().find(|line| line.starts_with("holds"));
+        let part: Vec<&str> = last.map_or("holds | | -", |line| line).split('|').collect();
+        assert_eq!(table, padded(&words(part[1]), table.len(), WORD), "the table of {head}");
+        assert_eq!(text, padded(&bytes(part[2]), text.len(), BYTE), "the text of {head}");
+    }
+    count
+}
+
 #[test]
 fn constructors() {
     let lines: Vec<&str> = CASES.lines().filter(|l| !l.starts_with('#') && !l.starts_with("call")).collect();
-    let heads = lines.iter().filter(|l| l.starts_with("counts"));
-    let scripts = lines.split(|l| l.starts_with("counts")).skip(1);
-    let count: usize = heads.zip(scripts).filter(|(head, _)| head.starts_with("counts 0 0 0 |")).map(|(head, script)| run(head, script)).sum();
-    assert!(count > 100, "only {count} constructors");
+    let heads = lines.iter().filter(|line| line.starts_with("counts"));
+    let scripts = lines.split(|line| line.starts_with("counts")).skip(1);
+    let count: usize = heads.zip(scripts).map(|(head, script)| run(head, script)).sum();
+    assert!(count > 200, "only {count} constructors");
     println!("cases.rs: {count} constructors as they should be");
 }

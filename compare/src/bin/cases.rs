@@ -23,7 +23,7 @@ fn main() {
     print!("{}", head(count, seed));
     let cases = sample(count, seed);
     for (n, part) in cases.chunks(each).enumerate() {
-        println!("\ncases{n} : List Case\nunfolding ran\ncases{n} =");
+        println!("\ncases{n} : List Case\nunfolding case\ncases{n} =");
         for (i, (call, report)) in part.iter().enumerate() {
             println!("    {}{}", if i == 0 { "" } else { "∷ " }, written(call, report));
         }
@@ -37,15 +37,9 @@ fn head(count: usize, seed: u64) -> String {
     format!(
         "-- {count} random calls with the answers of the interpreter in compare/src/model.rs, computed here by the definitions.
 -- Made by `compare/run cases count={count} seed={seed}`; not edited by hand. Assumes nothing.
-use Prim.Native.Nat.{{ℕ}}
 use mathlib.Core.List.{{List, [], _∷_}}
 use lib.Dec.{{T}}
-use Rattle.rules.proofs.Case.{{Case, every}}
-
--- table, text, width, limit, room, slots; answer, place, steps, bytes, events
-ran : List ℕ → List ℕ → ℕ → ℕ → ℕ → ℕ → ℕ → ℕ → ℕ → List ℕ → List ℕ → Case
-ran t x w l r e a n s bs es =
-    record {{ given = record {{ table = t; text = x; width = w; limit = l; room = r; slots = e; work = 16384 }}; answer = a; place = n; steps = s; bytes = bs; events = es }}
+use Rattle.rules.proofs.Case.{{Case, case, every}}
 "
     )
 }
@@ -78,19 +72,23 @@ fn sample(count: usize, seed: u64) -> Vec<(Call, Report)> {
     cases
 }
 
+/// Numbers that stand on a line.
+const ON_A_LINE: usize = 32;
+
 fn list(numbers: impl Iterator<Item = u32>) -> String {
-    let all: Vec<String> = numbers.map(|n| n.to_string()).chain(["[]".to_string()]).collect();
-    if all.len() == 1 {
-        all.concat()
-    } else {
-        format!("({})", all.join(" ∷ "))
+    let all: Vec<String> = numbers.map(|n| n.to_string()).collect();
+    if all.is_empty() {
+        return "[]".to_string();
     }
+    let lines: Vec<String> = all.chunks(ON_A_LINE).map(|line| line.join(" ∷ ")).collect();
+    format!("({} ∷ [])", lines.join("\n    ∷ "))
 }
 
+/// Four parts, each from a line of its own on: the table; the text and the limits; the answer and the bytes; the events.
 fn written(call: &Call, report: &Report) -> String {
     let bytes = |bytes: &[u8]| list(bytes.iter().map(|&b| u32::from(b)));
     format!(
-        "ran {} {} {} {} {} {} {} {} {} {} {}",
+        "case {}\n    {} {} {} {} {}\n    {} {} {} {}\n    {}",
         list(call.table.words.iter().copied()),
         bytes(&call.table.text),
         call.width,

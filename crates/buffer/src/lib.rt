@@ -1,4 +1,4 @@
-// Runs of stores into lent buffers: clear, fill, copy, and a newline with its blanks. Each promise says the whole buffer afterwards.
+// Runs of stores into lent buffers: clear, fill, copy, a newline with its blanks, clear what is dirty. Each promise says the whole buffer afterwards.
 // No run writes an element twice, and none but its own; only `copy_over` may write behind its run.
 pub mod utf8;
 
@@ -99,7 +99,9 @@ fn copy_block(src: &[u8], from: usize, dst: &mut [u8], at: usize)
 // bytes go as a whole block, where both sides have one left.
 pub fn copy_over(src: &[u8], from: usize, n: usize, dst: &mut [u8], at: usize)
     requires { ⌜ (from + n ≤ length (now src)) × (at + n ≤ length (now dst)) ⌝ }
-    ensures { λ _. ⌜ (take (at + n) (now (dst .exit)) ≡ take at (now (dst .entry)) ++ take n (drop from (now (src .entry)))) × (length (now (dst .exit)) ≡ length (now (dst .entry))) ⌝ }
+    ensures { λ _. ⌜
+        (take (at + n) (now (dst .exit)) ≡ take at (now (dst .entry)) ++ take n (drop from (now (src .entry))))
+        × (length (now (dst .exit)) ≡ length (now (dst .entry))) ⌝ }
 {
     if n <= BYTES && BYTES <= src.len() - from && BYTES <= dst.len() - at {
         copy_block(src, from, dst, at);

@@ -1,5 +1,5 @@
-// Text bytes: whether all are below 128, and whether they are well-formed UTF-8 by RFC 3629. No public function but `plainly_below_128`, a
-// shortcut of validation, has a `requires`.
+// Text bytes: whether all are below 128, then whether they are well-formed UTF-8 by RFC 3629. Only `plainly_below_128`, a shortcut of
+// validation, has a `requires`.
 ghost use mathlib.Core.Path.{_≡_};
 ghost use mathlib.Core.Bool.{true};
 ghost use Prim.Native.Nat.{_+_, _≤_};
@@ -23,7 +23,7 @@ pub fn below_128(bytes: &[u8]) -> bool
 // Bytes that are looked at together.
 const BLOCK: usize = 32;
 
-// Whether a part is seen at once to be below 128: all of the text is, or the block that starts with it. No is no answer.
+// Whether a part is seen at once to be below 128: all of the text is, or the block that starts with it is. `false` decides nothing.
 pub fn plainly_below_128(text: &[u8], plain: bool, at: usize, n: usize) -> bool
     requires { ⌜ (plain ≡ ascii (now text)) × (at + n ≤ length (now text)) ⌝ }
     ensures { λ r. ⌜ (r ≡ true → ascii (take n (drop at (now (text .entry)))) ≡ true) ⌝ }

@@ -37,7 +37,10 @@ pub record Answered (L : Limits) (r : Report) : Type 0 where
   pub place-bytes : r .answer ≡ 8 → r .place ≡ 0
 
 -- a report with nothing used
-empty : (L : Limits) (a n s : ℕ) → 0 < a → a ≤ 9 → (a < 6 → s ≡ 0) → s ≤ L .limit → (a ≡ 7 → s ≡ L .limit) → (a ≡ 1 → n ≡ 0) → (a ≡ 6 → n ≡ 0) → (a ≡ 8 → n ≡ 0) → Answered L (record { answer = a; place = n; steps = s; bytes = []; events = [] })
+empty : (L : Limits) (a n s : ℕ) → 0 < a → a ≤ 9
+    → (a < 6 → s ≡ 0) → s ≤ L .limit → (a ≡ 7 → s ≡ L .limit)
+    → (a ≡ 1 → n ≡ 0) → (a ≡ 6 → n ≡ 0) → (a ≡ 8 → n ≡ 0)
+    → Answered L (record { answer = a; place = n; steps = s; bytes = []; events = [] })
 empty L a n s z among early h seven one six eight =
     record {
       among = among;

@@ -105,11 +105,11 @@ module _ (L : Limits) where
 
   -- ---- layout
 
-  put-bounded : (p : Page) (over : Bool) (s : ℕ) → length (p .events) ≤ L .slots → s ≤ L .limit → Bounded (put L p over s)
+  put-bounded : (p : Page) (past : Bool) (s : ℕ) → length (p .events) ≤ L .slots → s ≤ L .limit → Bounded (put L p past s)
   unfolding put
-  put-bounded p over s r h = by (leb (taken p) (L .room)) refl
+  put-bounded p past s r h = by (leb (taken p) (L .room)) refl
     where
-      by : (b : Bool) → leb (taken p) (L .room) ≡ b → Bounded (elim b [ true ↦ done p over s | false ↦ refused bytes 0 s ])
+      by : (b : Bool) → leb (taken p) (L .room) ≡ b → Bounded (elim b [ true ↦ done p past s | false ↦ refused bytes 0 s ])
       by true e = done-within (record { in-bytes = leb-true _ _ e; in-events = r }) h
       by false e = no-bytes h
 

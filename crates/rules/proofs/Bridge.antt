@@ -8,7 +8,7 @@ use lib.ListN.{length}
 use Rattle.table.specs.Unfold.{Tree, nil, append, group, flatAlt, nest, hardline, text, annotated, union, align, fail}
 use Rattle.rules.specs.Layout.{Limits, Page, Mode, flat, broken, Entry, Refusal, bytes, events, Outcome, done, failed, refused, Fit, says, spent, next, also, andThen, try, chosen, visit, look, fit, rest, step, put, event, lay, taken, marked}
 use Rattle.table.specs.Document.{doc}
-use Rattle.rules.proofs.Meaning.{Result, laid, gave-up, alsoR, thenR, tryR, modeOf, mean}
+use Rattle.rules.proofs.Meaning.{Result, laid, fail-met, alsoR, thenR, tryR, modeOf, mean}
 
 -- a fit test that was not stopped says what is meant
 data FitMeets : Fit → Bool → Type 0 where
@@ -18,7 +18,7 @@ data FitMeets : Fit → Bool → Type 0 where
 -- a run that was not refused ends as is meant
 pub data Meets : Outcome → Result → Type 0 where
   is-done : {p : Page} {o : Bool} {s : ℕ} → Meets (done p o s) (laid p o)
-  is-failed : {s : ℕ} → Meets (failed s) gave-up
+  is-failed : {s : ℕ} → Meets (failed s) fail-met
   is-refused : {w : Refusal} {n s : ℕ} {r : Result} → Meets (refused w n s) r
 
 also-meets : (o : Bool) {x : Outcome} {r : Result} → Meets x r → Meets (also o x) (alsoR o r)
@@ -88,11 +88,11 @@ module _ (L : Limits) where
   rest-meets [] c s = said
   rest-meets (w ∷ ws) c s = fit-meets (w .what) broken (rest L ws) (after ws) (rest-meets ws) c s
 
-  put-meets : (p : Page) (over : Bool) (s : ℕ) → Meets (put L p over s) (laid p over)
+  put-meets : (p : Page) (past : Bool) (s : ℕ) → Meets (put L p past s) (laid p past)
   unfolding put
-  put-meets p over s = by (leb (taken p) (L .room))
+  put-meets p past s = by (leb (taken p) (L .room))
     where
-      by : (b : Bool) → Meets (elim b [ true ↦ done p over s | false ↦ refused bytes 0 s ]) (laid p over)
+      by : (b : Bool) → Meets (elim b [ true ↦ done p past s | false ↦ refused bytes 0 s ]) (laid p past)
       by true = is-done
       by false = is-refused
 

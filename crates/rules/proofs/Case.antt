@@ -50,7 +50,7 @@ pub record Case : Type 0 where
   pub bytes : List ℕ
   pub events : List ℕ
 
--- one written by a program: table, text, width, step limit, bytes of output, event records; then what it answers
+-- one as a program writes it (Sample.antt): table, text, width, step limit, bytes of output, event records; then what it answers
 unfoldable pub case : List ℕ → List ℕ → ℕ → ℕ → ℕ → ℕ → ℕ → ℕ → ℕ → List ℕ → List ℕ → Case
 case table bytes width limit room slots answer place steps out events =
     record {

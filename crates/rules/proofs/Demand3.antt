@@ -8,14 +8,15 @@ use mathlib.Core.Bool.{Bool, true, false}
 use Rattle.choice.specs.Pick.{pick}
 use Rattle.table.specs.Fault.{Fault, none, check}
 use Rattle.table.specs.Unfold.{tree, root}
+use Rattle.table.specs.Valid.{Valid}
 use Rattle.rules.specs.Layout.{Report, layout}
 use Rattle.rules.specs.Call.{Given, buffersRight, limits, refusal, unlessFault, call}
-use Rattle.rules.specs.Law.{Differ, document, ValidTable, Unrefused, Alike}
+use Rattle.rules.specs.Law.{Differ, document, Unrefused, Alike}
 use Rattle.table.proofs.Accept.{zero-if-valid}
 use Rattle.rules.proofs.Hold.{laws-hold}
 
 -- a valid table that is not refused for sizes is run
-runs : (g : Given) → ValidTable g → Unrefused (call g) → call g ≡ layout (limits g) (tree (g .table) (g .text) (root (g .table)))
+runs : (g : Given) → Valid (g .table) (g .text) → Unrefused (call g) → call g ≡ layout (limits g) (tree (g .table) (g .text) (root (g .table)))
 unfolding call
 runs g v u = by (buffersRight g) (check (g .table) (g .text)) (zero-if-valid (g .table) (g .text) v) (u .for-sizes)
   where
@@ -28,7 +29,7 @@ runs g v u = by (buffersRight g) (check (g .table) (g .text)) (zero-if-valid (g 
 
 -- that the text is the same is not used: documents hold the bytes of their texts
 pub demand-3 : (g h : Given)
-    → ValidTable g → ValidTable h
+    → Valid (g .table) (g .text) → Valid (h .table) (h .text)
     → Differ (document g) (document h)
     → g .width ≡ h .width → g .text ≡ h .text
     → Unrefused (call g) → Unrefused (call h)

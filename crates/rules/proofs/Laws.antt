@@ -9,14 +9,14 @@ use Rattle.rules.specs.Layout.{Page, Mode, flat, broken, nested}
 use Rattle.rules.specs.Law as D
 use Rattle.table.specs.Document.{Doc}
 use Rattle.rules.specs.Law.{Law, Within, Differ}
-use Rattle.rules.proofs.Meaning.{Result, laid, gave-up, Meaning, alsoR, thenR, tryR, modeOf, byMode, mean, nil′, append′, group′, flatAlt′, nest′, annotated′, union′, align′}
+use Rattle.rules.proofs.Meaning.{Result, laid, fail-met, Meaning, alsoR, thenR, tryR, modeOf, byMode, mean, nil′, append′, group′, flatAlt′, nest′, annotated′, union′, align′}
 
 then-assoc : (r : Result) (f g : Page → Result) → thenR (thenR r f) g ≡ thenR r (λ p. thenR (f p) g)
-then-assoc gave-up f g = refl
+then-assoc fail-met f g = refl
 then-assoc (laid p o) f g = go (f p)
   where
     step : (q : Bool) (r : Result) → alsoR (o || q) r ≡ alsoR o (alsoR q r)
-    step q gave-up = refl
+    step q fail-met = refl
     step q (laid p q′) = ap (λ b. laid p b) (or-assoc o)
       where
         or-assoc : (o : Bool) → (o || q) || q′ ≡ o || (q || q′)
@@ -24,7 +24,7 @@ then-assoc (laid p o) f g = go (f p)
         or-assoc false = refl
 
     go : (r : Result) → thenR (alsoR o r) g ≡ alsoR o (thenR r g)
-    go gave-up = refl
+    go fail-met = refl
     go (laid p′ q) = step q (g p′)
 
 -- two meanings are equal that lay and read alike
@@ -36,7 +36,7 @@ joins-regroup x y z = same _ _ (λ w i m k nx p. then-assoc (x .lays w i m (y .r
 
 also-false : (r : Result) → alsoR false r ≡ r
 also-false (laid p q) = refl
-also-false gave-up = refl
+also-false fail-met = refl
 
 nil-drops : (x : Meaning) → append′ nil′ x ≡ x
 nil-drops x = same _ _ (λ w i m k nx p. also-false (x .lays w i m k nx p)) (λ w m k c. refl)
@@ -59,7 +59,7 @@ nests-add x j k way = same _ _ (λ w i m e nx p. ap (λ i. x .lays w i m e nx p)
 try-assoc : (r s t : Result) → tryR (tryR r s) t ≡ tryR r (tryR s t)
 try-assoc (laid p true) s t = refl
 try-assoc (laid p false) s t = refl
-try-assoc gave-up s t = refl
+try-assoc fail-met s t = refl
 
 unions-regroup : (x y z : Meaning) → union′ (union′ x y) z ≡ union′ x (union′ y z)
 unions-regroup x y z = same _ _ (λ w i m k nx p. try-assoc (x .lays w i m k nx p) _ _) (λ w m k c. refl)
@@ -67,7 +67,7 @@ unions-regroup x y z = same _ _ (λ w i m k nx p. try-assoc (x .lays w i m k nx 
 try-twins : (r : Result) → tryR r r ≡ r
 try-twins (laid p true) = refl
 try-twins (laid p false) = refl
-try-twins gave-up = refl
+try-twins fail-met = refl
 
 union-twins : (x : Meaning) → union′ x x ≡ x
 union-twins x = same _ _ (λ w i m k nx p. try-twins (x .lays w i m k nx p)) (λ w m k c. refl)

@@ -135,7 +135,7 @@ module _ (N B : ℕ → ℕ → Type 0) (P : Page → Page → Type 0) where
     module _ (K : Kept) where
       put-like : (p q : Page) (o : Bool) (s : ℕ) → P p q → taken p ≡ taken q → Like (put L p o s) (put L q o s)
       unfolding put
-      put-like p q o s h e = subst (λ n. Like (elim (leb (taken p) (L .room)) [ true ↦ done p o s | false ↦ refused bytes 0 s ]) (elim (leb n (L .room)) [ true ↦ done q o s | false ↦ refused bytes 0 s ])) e (by (leb (taken p) (L .room)))
+      put-like p q o s h e = rw (e, put) (by (leb (taken q) (L .room)))
         where
           by : (b : Bool) → Like (elim b [ true ↦ done p o s | false ↦ refused bytes 0 s ]) (elim b [ true ↦ done q o s | false ↦ refused bytes 0 s ])
           by true = both-done h
@@ -143,7 +143,7 @@ module _ (N B : ℕ → ℕ → Type 0) (P : Page → Page → Type 0) where
 
       event-like : (n n′ m l l′ : ℕ) (p q : Page) (s : ℕ) → N n n′ → B l l′ → P p q → Like (event L n m l p s) (event L n′ m l′ q s)
       unfolding event
-      event-like n n′ m l l′ p q s g b h = subst (λ c. Like (elim (ltb (length (p .events)) (L .slots)) [ true ↦ done (marked m l p) false s | false ↦ refused events n s ]) (elim (ltb c (L .slots)) [ true ↦ done (marked m l′ q) false s | false ↦ refused events n′ s ])) (K .same-events p q h) (by (ltb (length (p .events)) (L .slots)))
+      event-like n n′ m l l′ p q s g b h = rw (K .same-events p q h, event) (by (ltb (length (q .events)) (L .slots)))
         where
           by : (b : Bool) → Like (elim b [ true ↦ done (marked m l p) false s | false ↦ refused events n s ]) (elim b [ true ↦ done (marked m l′ q) false s | false ↦ refused events n′ s ])
           by true = both-done (K .keeps-marked m l l′ p q b h)

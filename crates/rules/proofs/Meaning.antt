@@ -11,26 +11,27 @@ use Rattle.table.specs.Document.{Doc, nil, append, group, flatAlt, nest, hardli
 -- the page and whether a Text laid ended past width; or a Fail was met
 pub data Result : Type 0 where
   laid : Page → Bool → Result
-  gave-up : Result
+  fail-met : Result
 
--- Both are at a width. `lays` has the indentation, the mode, what the fit test says of the waiting nodes at a column, and the indentation of the next waiting node
--- by the node's own; `reads` has the mode and what the fit test says after the document.
+-- At a width. `lays` takes the indentation, the mode, what the fit test says of the waiting nodes at a column, the indentation of the next
+-- waiting node (else the node's own, which it is given), and the page. `reads`, the fit test, takes the mode, what it says after the document,
+-- and the column.
 pub record Meaning : Type 0 where
   pub lays : ℕ → ℕ → Mode → (ℕ → Bool) → (ℕ → ℕ) → Page → Result
   pub reads : ℕ → Mode → (ℕ → Bool) → ℕ → Bool
 
 abbrev pub alsoR : Bool → Result → Result
 alsoR o (laid p q) = laid p (o || q)
-alsoR o gave-up = gave-up
+alsoR o fail-met = fail-met
 
 abbrev pub thenR : Result → (Page → Result) → Result
 thenR (laid p o) f = alsoR o (f p)
-thenR gave-up f = gave-up
+thenR fail-met f = fail-met
 
 abbrev pub tryR : Result → Result → Result
 tryR (laid p true) r = r
 tryR (laid p false) r = laid p false
-tryR gave-up r = r
+tryR fail-met r = r
 
 abbrev pub modeOf : Bool → Mode
 modeOf true = flat
@@ -86,7 +87,7 @@ abbrev pub align′ : Meaning → Meaning
 align′ x = record { lays = λ w i m k nx p. x .lays w (p .column) m k nx p; reads = x .reads }
 
 abbrev pub fail′ : Meaning
-fail′ = record { lays = λ w i m k nx p. gave-up; reads = λ w m k c. false }
+fail′ = record { lays = λ w i m k nx p. fail-met; reads = λ w m k c. false }
 
 unfoldable pub mean : Doc → Meaning
 mean nil = nil′

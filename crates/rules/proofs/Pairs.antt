@@ -8,9 +8,10 @@ use mathlib.Core.List.{List, [], _∷_}
 use lib.Dec.{T, eqb, eqb→eq}
 use Rattle.table.specs.Node.{Node}
 use Rattle.table.specs.Fault.{check}
+use Rattle.table.specs.Valid.{Valid}
 use Rattle.table.specs.Document.{Doc}
 use Rattle.rules.specs.Call.{Given, call}
-use Rattle.rules.specs.Law.{document, ValidTable}
+use Rattle.rules.specs.Law.{document}
 use Rattle.table.proofs.Accept.{valid-if-zero}
 use Rattle.rules.proofs.Case.{ascii-bytes, on, same}
 
@@ -33,7 +34,7 @@ unfoldable pub lays : Given → String → Bool
 unfolding same ascii-bytes
 lays g bytes = eqb (check (g .table) (g .text) .answer) 0 && eqb (call g .answer) 0 && same (call g .bytes) (ascii-bytes bytes)
 
-pub laid : (g : Given) (bytes : String) → T (lays g bytes) → ValidTable g × (call g .answer ≡ 0)
+pub laid : (g : Given) (bytes : String) → T (lays g bytes) → Valid (g .table) (g .text) × (call g .answer ≡ 0)
 unfolding lays
 laid g bytes t =
     let valid = eqb (check (g .table) (g .text) .answer) 0 in

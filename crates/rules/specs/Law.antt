@@ -3,7 +3,6 @@
 use Prim.Native.Nat.{ℕ, _+_}
 use mathlib.Core.Path.{_≡_}
 use Rattle.table.specs.Node.{Way}
-use Rattle.table.specs.Valid.{Valid}
 use Rattle.table.specs.Unfold.{tree, root}
 use Rattle.table.specs.Document.{Doc, nil, append, group, flatAlt, nest, annotated, union, align, fail, doc}
 use Rattle.rules.specs.Layout.{Report}
@@ -52,10 +51,6 @@ Differ d e = EitherWay (Within Law) d e
 -- what the table of a call unfolds to
 abbrev pub document : Given → Doc
 document g = doc (tree (g .table) (g .text) (root (g .table)))
-
--- its table, with its text, is valid
-abbrev pub ValidTable : Given → Type 0
-ValidTable g = Valid (g .table) (g .text)
 
 -- not refused for sizes, steps or room
 pub record Unrefused (r : Report) : Type 0 where

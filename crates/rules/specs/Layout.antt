@@ -102,15 +102,15 @@ next (w ∷ ws) i = w .ind
 
 -- ---- one thing after another
 
--- what was laid before had a Text that ended past width, or this has
+-- what was laid before had a Text that ended past width, or what is laid now has
 abbrev pub also : Bool → Outcome → Outcome
-also o (done p q s) = done p (o || q) s
-also o (failed s) = failed s
-also o (refused r n s) = refused r n s
+also past (done p more s) = done p (past || more) s
+also past (failed s) = failed s
+also past (refused r n s) = refused r n s
 
 -- what is done goes on; a Fail or a refusal doesn't
 abbrev pub andThen : Outcome → (Page → ℕ → Outcome) → Outcome
-andThen (done p o s) f = also o (f p s)
+andThen (done p past s) f = also past (f p s)
 andThen (failed s) f = failed s
 andThen (refused r n s) f = refused r n s
 
@@ -169,7 +169,7 @@ module _ (L : Limits) where
 
   -- what a Text or a Hardline makes of the page fits whole or answers 8
   unfoldable pub put : Page → Bool → ℕ → Outcome
-  put p over s = elim (leb (taken p) (L .room)) [ true ↦ done p over s | false ↦ refused bytes 0 s ]
+  put p past s = elim (leb (taken p) (L .room)) [ true ↦ done p past s | false ↦ refused bytes 0 s ]
 
   -- an event of the Annotated node n fits or answers 9
   unfoldable pub event : ℕ → ℕ → ℕ → Page → ℕ → Outcome
@@ -215,7 +215,7 @@ pub record Report : Type 0 where
 
 -- laid out is 0; a Fail met outside every trial is 6, at place 0; used bytes and events are 0 on a refusal
 abbrev pub report : Outcome → Report
-report (done p o s) = record { answer = 0; place = 0; steps = s; bytes = p .out; events = p .events }
+report (done p past s) = record { answer = 0; place = 0; steps = s; bytes = p .out; events = p .events }
 report (failed s) = record { answer = 6; place = 0; steps = s; bytes = []; events = [] }
 report (refused r n s) = record { answer = number r; place = n; steps = s; bytes = []; events = [] }
 

@@ -3,7 +3,7 @@
 --     clean-of, of-clean       the first N nodes have no fault, and each of them has none
 --     first-zero, first-next, first-here   the first fault, node by node
 --     check-sizes, check-nodes 1 comes first, then the nodes
---     valid-if-zero, zero-if-valid, accepted   `check` answers 0, and the table is accepted; both ways
+--     valid-if-zero, zero-if-valid, valid-iff-zero   `check` answers 0, and the table is valid; both ways
 -- Assumes nothing.
 use Prim.Native.Nat.{ℕ, zero, suc, _+_, _/_, _%_, _≤_, _<_}
 use native.Mathlib.Omega.{arith}
@@ -181,7 +181,7 @@ module _ (table text : List ℕ) where
       let ne = eqb-false w 0 (not-true (eqb w 0) (r .0)) in
       (omega arith, eqb-true (w % 4) 0 (r .1), leb-true w 4096 (q .1), leb-true (length text) 65536 (p .1))
 
-  -- what is accepted is as document 01 asks
+  -- what `check` answers 0 for is valid
   pub valid-if-zero : check table text .answer ≡ 0 → Valid table text
   unfolding check
   valid-if-zero e = go (sizesRight (length table) (length text)) refl e
@@ -198,7 +198,7 @@ module _ (table text : List ℕ) where
           }
       go false q e = absurd (omega arith)
 
-  -- and what is as document 01 asks is not refused
+  -- and what is valid is not refused
   pub zero-if-valid : Valid table text → check table text ≡ none
   unfolding check
   zero-if-valid r =
@@ -210,5 +210,5 @@ module _ (table text : List ℕ) where
       rw sizes (of-clean table text (w / 4) (λ n h. unfold faultAt in of-right text n _ _ _ _ (r .nodes n h)))
 
   -- both directions
-  pub accepted : (check table text .answer ≡ 0) ↔ Valid table text
-  accepted = (valid-if-zero, λ r. ap (λ (f : Fault). f .answer) (zero-if-valid r))
+  pub valid-iff-zero : (check table text .answer ≡ 0) ↔ Valid table text
+  valid-iff-zero = (valid-if-zero, λ r. ap (λ (f : Fault). f .answer) (zero-if-valid r))

@@ -9,12 +9,13 @@ use lib.ListN.{length, getD, take, drop}
 use lib.Dec.{eqb, leb}
 use borrow.Author.Tests.{lt-ltb, le-ltb, le-leb, lt-leb, ne-eqb}
 use Rattle.choice.specs.Pick.{pick}
-use Rattle.table.specs.Kinds.{kinds, kindAt}
+use Rattle.table.specs.Kinds.{kindAt}
 use Rattle.table.specs.declared.KindInfo.{KindInfo}
 use Rattle.buffer.specs.Utf8.{wellFormed, ascii}
 use Rattle.table.specs.Parts.{textFault}
 use Rattle.table.specs.Fault.{Fault, fault, unusedZero, childrenBelow, nestInRange, columnsRight, faultOf, faultAt}
 use Rattle.table.proofs.Accept.{part-length}
+use Rattle.table.proofs.KindRule.{append-entry, group-entry, text-entry}
 
 -- ---- columns
 
@@ -46,20 +47,20 @@ pub fault-unknown : (text : List ℕ) (n k a b c : ℕ) → 11 ≤ k → 2 ≡ f
 unfolding faultOf
 fault-unknown text n k a b c h = rw (le-ltb k 11 h)
 
--- a join of two nodes below it
-pub fault-join : (n k a b c : ℕ) → k ≡ 1 → a < n → b < n → c ≡ 0 → (text : List ℕ) → faultOf text n k a b c ≡ 0
-unfolding faultOf kindAt kinds
-fault-join n k a b c one first second none text = rw (one, none, lt-ltb a n first, lt-ltb b n second)
+-- an Append of two nodes below it, by its entry in the table of kinds
+pub fault-append : (n k a b c : ℕ) → k ≡ 1 → a < n → b < n → c ≡ 0 → (text : List ℕ) → faultOf text n k a b c ≡ 0
+unfolding faultOf
+fault-append n k a b c one first second none text = rw (one, append-entry, none, lt-ltb a n first, lt-ltb b n second)
 
--- a group of a node below it
+-- a Group of a node below it, by its entry
 pub fault-group : (n k a b c : ℕ) → k ≡ 2 → a < n → b ≡ 0 → c ≡ 0 → (text : List ℕ) → faultOf text n k a b c ≡ 0
-unfolding faultOf kindAt kinds
-fault-group n k a b c two child none last text = rw (two, none, last, lt-ltb a n child)
+unfolding faultOf
+fault-group n k a b c two child none last text = rw (two, group-entry, none, last, lt-ltb a n child)
 
--- a Text uses all its words and has no child
+-- a Text, by its entry: it uses all its words and has no child
 pub fault-text : (text : List ℕ) (n k a b c f : ℕ) → k ≡ 6 → f ≡ textFault text a b c → f ≡ faultOf text n k a b c
-unfolding faultOf kindAt kinds
-fault-text text n k a b c f e t = rw e t
+unfolding faultOf
+fault-text text n k a b c f e t = rw (e, text-entry) t
 
 -- of a known kind, with its entry in the table of kinds
 module _ (text : List ℕ) (n k a b c : ℕ) (info : KindInfo) (known : k < 11) (entry : info ≡ kindAt k) where

@@ -1,5 +1,7 @@
--- The rule of the table of kinds, proved once over the whole of it: each entry counts the children and the words of the node that its
--- kind stands for. Assumes nothing.
+-- The table of kinds.
+--     append-entry, group-entry, text-entry   the entries that the shortcuts of validation go by
+--     kind-rule    the rule of the table, proved once over the whole of it: each entry counts the children and the words of its kind's node
+-- Assumes nothing.
 use Prim.Native.Nat.{ℕ, _<_}
 use mathlib.Core.Path.{_≡_, refl}
 use mathlib.Core.Bool.{Bool, _&&_}
@@ -11,6 +13,20 @@ use Rattle.table.specs.declared.KindInfo.{KindInfo}
 use Rattle.table.specs.Kinds.{kind, kinds, kindAt}
 use Rattle.table.specs.Node.{Node, nil, append, group, flatAlt, nest, hardline, text, annotated, union, align, fail, nodeOf}
 use Rattle.choice.proofs.Tests.{and-true, all-at}
+
+-- An Append has two children and uses two words, a Group one and one, a Text no child and all three words. `plainly_right` and `node_fault` in
+-- src/lib.rt test these kinds without reading the table; their proofs cite these lines.
+pub append-entry : kindAt 1 ≡ kind 2 2
+unfolding kinds kindAt
+append-entry = refl
+
+pub group-entry : kindAt 2 ≡ kind 1 1
+unfolding kinds kindAt
+group-entry = refl
+
+pub text-entry : kindAt 6 ≡ kind 0 3
+unfolding kinds kindAt
+text-entry = refl
 
 -- the children of a node
 abbrev pub children : Node → List ℕ

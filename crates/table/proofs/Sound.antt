@@ -1,7 +1,8 @@
 -- A node without a fault is sound: what the readers of a table lean on (specs/Sound.antt).
---     sound-of      one node
---     all-sound-of      the first N nodes
---     all-sound-of-check   the whole table, accepted by `check`
+--     sound-of             one node
+--     all-sound-of         the first N nodes
+--     all-sound-of-valid   a valid table
+--     all-sound-of-check   a table that `check` answers 0 for
 -- Assumes nothing.
 use Prim.Native.Nat.{ℕ, zero, suc, _/_}
 use native.Mathlib.Omega.{arith}

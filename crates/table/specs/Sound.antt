@@ -1,9 +1,10 @@
--- What the readers of a valid table lean on: children below their parents, Nest amounts, and Text ranges and columns in bounds.
+-- What readers of a table need of it: children below their parents, Nest amounts, and Text ranges and columns in bounds. A node of a valid
+-- table is sound (proofs/Sound.antt); a sound one may still have a wrong unused word, or bytes that are no UTF-8.
 use Prim.Native.Nat.{ℕ, _+_, _≤_, _<_}
 use mathlib.Core.List.{List}
 use Rattle.table.specs.Node.{Node, nil, append, group, flatAlt, nest, hardline, text, annotated, union, align, fail, nodeAt}
 
--- node n, over a text of so many bytes
+-- node n is sound, over a text of so many bytes
 abbrev pub Sound : ℕ → ℕ → Node → Type 0
 Sound len n nil = Unit {0}
 Sound len n (append a b) = (a < n) × (b < n)

@@ -1,4 +1,4 @@
--- Which tables are accepted, said as document 01 says it: what holds of a table, its text and each of its nodes.
+-- What document 01 calls a valid table: what holds of a table, its text and each of its nodes. Sound.antt has the part that readers need.
 -- proofs/Accept.antt: `check` of Fault.antt answers 0 for these and for no others.
 use Prim.Native.Nat.{ℕ, _+_, _/_, _%_, _≤_, _<_}
 use mathlib.Core.Path.{_≡_}
@@ -32,7 +32,7 @@ pub record NodeRight (bytes : List ℕ) (n k a b c : ℕ) : Type 0 where
   pub nest : k ≡ 4 → NestRight b c
   pub text : k ≡ 6 → TextRight bytes a b c
 
--- the whole: its sizes, and every node, unreachable ones too
+-- a valid table with its text: its sizes, and every node, unreachable ones too
 pub record Valid (table text : List ℕ) : Type 0 where
   pub some : 0 < length table
   pub fours : length table % 4 ≡ 0

@@ -1,4 +1,4 @@
-// The node table: its kinds, its numbers, and its validation with answers 1 to 5.
+// The node table: the kinds by name and as a table, the types of its numbers, what is wrong with one node, and validation with answers 1 to 5.
 // No public function has a `requires`. Each promise is an equation with a definition of specs/, so one answer and one place are
 // possible for each table and text, and two outcomes that a promise allows are equal.
 ghost use mathlib.Core.Path.{_≡_};
@@ -54,7 +54,7 @@ pub struct KindInfo {
     pub words: u32,
 }
 
-// For each kind how many children it has and which words it uses: read by validation and by the file writer.
+// For each kind how many children it has and which words it uses: read by validation; the file writer of request 2026-04 is to read it too.
 // Nil, Append, Group, FlatAlt, Nest, Hardline, Text, Annotated, Union, Align, Fail.
 const KINDS: [KindInfo; 11] = [
     KindInfo {
@@ -230,7 +230,8 @@ fn text_fault(text: &[u8], plain: bool, a: u32, b: u32, c: u32) -> u32
     }
 }
 
-// Whether the node is a join or a group of nodes below it: the most common kinds are right at a glance. No is no answer.
+// Whether the node is plainly right: an Append or a Group of nodes below it, the most common kinds. `false` decides nothing. Their children
+// and used words are those of KINDS: `append-entry` and `group-entry` of proofs/KindRule.
 fn plainly_right(n: NodeNo, k: u32, a: u32, b: u32, c: u32) -> bool
     ensures { λ r. ⌜ (r ≡ true → (text : List ℕ) → faultOf text (n .0) k a b c ≡ 0) ⌝ }
 {
@@ -243,7 +244,8 @@ fn plainly_right(n: NodeNo, k: u32, a: u32, b: u32, c: u32) -> bool
     false
 }
 
-// 0, or the first of 2, 3, 4, 5. A Text uses all its words and has no child, so it is looked at first, by itself.
+// 0, or the first of 2, 3, 4, 5. By KINDS a Text uses all its words and has no child (`text-entry` of proofs/KindRule), so it is looked at
+// first, by itself.
 fn node_fault(
     text: &[u8],
     plain: bool,

@@ -17,8 +17,9 @@ sub-if3 c = search needs
 
 copy-block-requires : tie.Need-copy-block-requires
 copy-block-requires c κs =
-    let a = c .before .before .before .before .before .before .args in
-    let in-src : 32 ≤ length (a .src .now) - a .from = leb-true _ _ (c .before .before .if2 .taken) in
+    let short = c .before .before in
+    let a = short .before .before .before .before .args in
+    let in-src : 32 ≤ length (a .src .now) - a .from = leb-true _ _ (short .if2 .taken) in
     let in-dst : 32 ≤ length (a .dst .now) - a .at = leb-true _ _ (c .before .if3 .taken) in
     (omega arith, omega arith)
 
@@ -27,10 +28,12 @@ same-length c = search needs
 
 returns : tie.Need-returns
 returns c =
-    let a = c .before .before .before .before .before .before .before .before .before .args in
-    let in-src : 32 ≤ length (a .src .now) - a .from = leb-true _ _ (c .before .before .before .before .before .if2 .taken) in
-    let in-dst : 32 ≤ length (a .dst .now) - a .at = leb-true _ _ (c .before .before .before .before .if3 .taken) in
-    copied-over (a .dst .now) (a .at) (a .src .now) (a .from) 32 (a .n) _ (omega arith) (omega arith) (omega arith) (c .before .before .copy-block .ensures)
+    let copied = c .before .before in
+    let whole = copied .before .before in
+    let a = whole .before .before .before .before .before .args in
+    let in-src : 32 ≤ length (a .src .now) - a .from = leb-true _ _ (whole .before .if2 .taken) in
+    let in-dst : 32 ≤ length (a .dst .now) - a .at = leb-true _ _ (whole .if3 .taken) in
+    copied-over (a .dst .now) (a .at) (a .src .now) (a .from) 32 (a .n) _ (omega arith) (omega arith) (omega arith) (copied .copy-block .ensures)
 
 copy-bytes-requires : tie.Need-copy-bytes-requires
 copy-bytes-requires c κs = search needs

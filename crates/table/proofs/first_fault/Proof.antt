@@ -20,6 +20,13 @@ Inv-loop table text plain kinds nodes n₀ n = (n ≤ nodes) × (firstFault tabl
 abbrev μ-loop : tie.MeasureT-loop
 μ-loop table text plain kinds nodes n₀ n = nodes - n
 
+-- a turn of the loop, from the four words that it reads; and the function's entry
+abbrev turn-of : tie.After-plainly-right Inv-loop μ-loop → tie.In-loop Inv-loop μ-loop
+turn-of c = c .before .before .before .before .before
+
+abbrev entry-of : tie.In-loop Inv-loop μ-loop → tie.Start Inv-loop μ-loop
+entry-of c = c .before .before .before .before .before
+
 all-kinds-requires : tie.Need-all-kinds-requires Inv-loop μ-loop
 all-kinds-requires c κs = search needs
 
@@ -76,21 +83,25 @@ loop-less c = search needs
 
 loop-again : tie.Need-loop-again Inv-loop μ-loop
 loop-again c =
-    let a = c .before .before .before .before .before .before .before .before .before .before .before .args in
+    let glance = c .before in
+    let turn = turn-of glance in
+    let a = entry-of turn .args in
     let table = a .table .now in
     let text = a .text .now in
-    let L = c .before .before .before .before .before .before .before .loop in
-    let f = fault-read table text (L .n) 0 (sym (c .before .plainly-right .ensures (c .if1 .taken) text)) in
+    let L = turn .before .loop in
+    let f = fault-read table text (L .n) 0 (sym (glance .plainly-right .ensures (c .if1 .taken) text)) in
     (omega arith, rw add-one (first-next table text (L .n) (L .inv .1) f))
 
 returns : tie.Need-returns Inv-loop μ-loop
 returns c =
-    let a = c .before .before .before .before .before .before .before .before .before .before .before .before .args in
+    let turn = turn-of (c .before .before) in
+    let a = entry-of turn .args in
     let table = a .table .now in
     let text = a .text .now in
-    let L = c .before .before .before .before .before .before .before .before .loop in
+    let nodes = length table / 4 in
+    let L = turn .before .loop in
     let f = fault-read table text (L .n) 2 (fault-unknown text (L .n) (getD table (L .n * 4) 0) _ _ _ (c .if2 .taken)) in
-    reported (firstFault table text (length table / 4)) 2 (L .n) (first-here table text (L .n) 2 (length table / 4) (L .inv .1) f (λ e. omega arith) (c .before .before .before .before .before .before .before .loop-test .taken))
+    reported (firstFault table text nodes) 2 (L .n) (first-here table text (L .n) 2 nodes (L .inv .1) f (λ e. omega arith) (turn .loop-test .taken))
 
 cast-info : tie.Need-cast-info Inv-loop μ-loop
 cast-info c = search needs
@@ -104,19 +115,23 @@ array-copy-out-info c = search needs
 node-fault-requires : tie.Need-node-fault-requires Inv-loop μ-loop
 unfolding kindAt
 node-fault-requires c κs =
-    let s = c .before .before .before .before .before .before .before .before .before .before .before .before .before in
-    let k = getD (s .args .table .now) (c .before .before .before .before .before .before .before .before .before .loop .n * 4) 0 in
-    (s .pre .0, omega arith, ap (λ (t : List KindInfo). getD t k (kind 0 0)) (c .before .before .before .before .before .before .before .before .before .before .all-kinds .ensures))
+    let turn = turn-of (c .before .before .before) in
+    let start = entry-of turn in
+    let k = getD (start .args .table .now) (turn .before .loop .n * 4) 0 in
+    (start .pre .0, omega arith, ap (λ (t : List KindInfo). getD t k (kind 0 0)) (turn .before .before .all-kinds .ensures))
 
 returns-2 : tie.Need-returns-2 Inv-loop μ-loop
 returns-2 c =
-    let a = c .before .before .before .before .before .before .before .before .before .before .before .before .before .before .before .args in
+    let told = c .before in
+    let turn = turn-of (told .before .before .before .before) in
+    let a = entry-of turn .args in
     let table = a .table .now in
     let text = a .text .now in
-    let L = c .before .before .before .before .before .before .before .before .before .before .before .loop in
-    let r = c .before .node-fault in
+    let nodes = length table / 4 in
+    let L = turn .before .loop in
+    let r = told .node-fault in
     let f = fault-read table text (L .n) (r .result) (r .ensures) in
-    reported (firstFault table text (length table / 4)) (r .result) (L .n) (first-here table text (L .n) (r .result) (length table / 4) (L .inv .1) f (c .if3 .taken) (c .before .before .before .before .before .before .before .before .before .before .loop-test .taken))
+    reported (firstFault table text nodes) (r .result) (L .n) (first-here table text (L .n) (r .result) nodes (L .inv .1) f (c .if3 .taken) (turn .loop-test .taken))
 
 add-n-2 : tie.Need-add-n-2 Inv-loop μ-loop
 add-n-2 c = search needs
@@ -126,11 +141,13 @@ loop-less-2 c = search needs
 
 loop-again-2 : tie.Need-loop-again-2 Inv-loop μ-loop
 loop-again-2 c =
-    let a = c .before .before .before .before .before .before .before .before .before .before .before .before .before .before .before .args in
+    let told = c .before in
+    let turn = turn-of (told .before .before .before .before) in
+    let a = entry-of turn .args in
     let table = a .table .now in
     let text = a .text .now in
-    let L = c .before .before .before .before .before .before .before .before .before .before .before .loop in
-    let r = c .before .node-fault in
+    let L = turn .before .loop in
+    let r = told .node-fault in
     let f = fault-read table text (L .n) (r .result) (r .ensures) in
     (omega arith, rw add-one (first-next table text (L .n) (L .inv .1) (f ∙ c .if3 .left)))
 

@@ -19,43 +19,52 @@ unused-zero-requires c κs = search needs
 
 returns-2 : tie.Need-returns-2
 returns-2 c =
-    let a = c .before .before .before .before .args in
-    let pre = c .before .before .before .before .pre in
-    fault-unused (a .text .now) (a .n .0) (a .k) (a .a) (a .b) (a .c) (a .info) (pre .1) (pre .2)
-    (sym (c .before .unused-zero .ensures) ∙ not-true _ (c .if2 .taken))
+    let unused = c .before in
+    let start = unused .before .before .before in
+    let a = start .args in
+    fault-unused (a .text .now) (a .n .0) (a .k) (a .a) (a .b) (a .c) (a .info) (start .pre .1) (start .pre .2)
+    (sym (unused .unused-zero .ensures) ∙ not-true _ (c .if2 .taken))
 
 children-below-requires : tie.Need-children-below-requires
 children-below-requires c κs = search needs
 
 returns-3 : tie.Need-returns-3
 returns-3 c =
-    let a = c .before .before .before .before .before .before .args in
-    let pre = c .before .before .before .before .before .before .pre in
-    fault-child (a .text .now) (a .n .0) (a .k) (a .a) (a .b) (a .c) (a .info) (pre .1) (pre .2)
-    (sym (c .before .before .before .unused-zero .ensures) ∙ not-false _ (c .before .before .if2 .left))
-    (sym (c .before .children-below .ensures) ∙ not-true _ (c .if3 .taken))
+    let below = c .before in
+    let unused = below .before .before in
+    let start = unused .before .before .before in
+    let a = start .args in
+    fault-child (a .text .now) (a .n .0) (a .k) (a .a) (a .b) (a .c) (a .info) (start .pre .1) (start .pre .2)
+    (sym (unused .unused-zero .ensures) ∙ not-false _ (below .before .if2 .left))
+    (sym (below .children-below .ensures) ∙ not-true _ (c .if3 .taken))
 
 nest-in-range-requires : tie.Need-nest-in-range-requires
 nest-in-range-requires c κs = search needs
 
 returns-4 : tie.Need-returns-4
 returns-4 c =
-    let a = c .before .before .before .before .before .before .before .before .args in
-    let pre = c .before .before .before .before .before .before .before .before .pre in
-    fault-nest (a .text .now) (a .n .0) (a .k) (a .a) (a .b) (a .c) (a .info) (pre .1) (pre .2)
-    (sym (c .before .before .before .before .before .unused-zero .ensures) ∙ not-false _ (c .before .before .before .before .if2 .left))
-    (sym (c .before .before .before .children-below .ensures) ∙ not-false _ (c .before .before .if3 .left))
-    (sym (c .before .nest-in-range .ensures) ∙ not-true _ (c .if4 .taken))
+    let ranged = c .before in
+    let below = ranged .before .before in
+    let unused = below .before .before in
+    let start = unused .before .before .before in
+    let a = start .args in
+    fault-nest (a .text .now) (a .n .0) (a .k) (a .a) (a .b) (a .c) (a .info) (start .pre .1) (start .pre .2)
+    (sym (unused .unused-zero .ensures) ∙ not-false _ (below .before .if2 .left))
+    (sym (below .children-below .ensures) ∙ not-false _ (ranged .before .if3 .left))
+    (sym (ranged .nest-in-range .ensures) ∙ not-true _ (c .if4 .taken))
 
 returns-5 : tie.Need-returns-5
 returns-5 c =
-    let a = c .before .before .before .before .before .before .before .before .args in
-    let pre = c .before .before .before .before .before .before .before .before .pre in
-    fault-none (a .text .now) (a .n .0) (a .k) (a .a) (a .b) (a .c) (a .info) (pre .1) (pre .2)
-    (sym (c .before .before .before .before .before .unused-zero .ensures) ∙ not-false _ (c .before .before .before .before .if2 .left))
-    (sym (c .before .before .before .children-below .ensures) ∙ not-false _ (c .before .before .if3 .left))
-    (sym (c .before .nest-in-range .ensures) ∙ not-false _ (c .if4 .left))
-    (c .before .before .before .before .before .before .if1 .left)
+    let ranged = c .before in
+    let below = ranged .before .before in
+    let unused = below .before .before in
+    let start = unused .before .before .before in
+    let a = start .args in
+    fault-none (a .text .now) (a .n .0) (a .k) (a .a) (a .b) (a .c) (a .info) (start .pre .1) (start .pre .2)
+    (sym (unused .unused-zero .ensures) ∙ not-false _ (below .before .if2 .left))
+    (sym (below .children-below .ensures) ∙ not-false _ (ranged .before .if3 .left))
+    (sym (ranged .nest-in-range .ensures) ∙ not-false _ (c .if4 .left))
+    (unused .before .if1 .left)
 
 pub node-fault-spec : {M : Type 1} → statement M
 node-fault-spec =

@@ -35,8 +35,9 @@ loop-less c = search needs
 
 loop-again : tie.Need-loop-again Inv-loop μ-loop
 loop-again c =
-    let L = c .before .before .before .before .before .loop in
-    let bytes = c .before .before .before .before .before .before .before .args .bytes .now in
+    let at-loop = c .before .before .before .before .before in
+    let L = at-loop .loop in
+    let bytes = at-loop .before .before .args .bytes .now in
     (omega arith, owed-low bytes (L .i) (L .o .count) (L .o .low) (L .o .high) (omega arith) (c .before .before .if1 .taken) (ltb-true _ _ (c .if2 .taken)) ∙ L .inv .1)
 
 shared-slice-read-octet : tie.Need-shared-slice-read-octet Inv-loop μ-loop
@@ -53,9 +54,11 @@ enum-told c = search needs
 
 returns : tie.Need-returns Inv-loop μ-loop
 returns c =
-    let L = c .before .before .before .before .before .before .before .loop in
-    let bytes = c .before .before .before .before .before .before .before .before .before .args .bytes .now in
-    let r = c .before .before .octet in
+    let read = c .before .before in
+    let at-loop = read .before .before .before .before .before in
+    let L = at-loop .loop in
+    let bytes = at-loop .before .before .args .bytes .now in
+    let r = read .octet in
     ap (λ (x : Next). goesOn x (drop (L .i + 1) bytes)) (sym (c .enum-told .given .1)) ∙ owed-read bytes (L .i) (L .o) (r .result) (omega arith) (r .ensures) ∙ L .inv .1
 
 add-i-2 : tie.Need-add-i-2 Inv-loop μ-loop
@@ -66,15 +69,21 @@ loop-less-2 c = search needs
 
 loop-again-2 : tie.Need-loop-again-2 Inv-loop μ-loop
 loop-again-2 c =
-    let L = c .before .before .before .before .before .before .before .before .loop in
-    let bytes = c .before .before .before .before .before .before .before .before .before .before .args .bytes .now in
-    let r = c .before .before .before .octet in
-    (omega arith, ap (λ (x : Next). goesOn x (drop (L .i + 1) bytes)) (sym (c .before .next .given .1)) ∙ owed-read bytes (L .i) (L .o) (r .result) (omega arith) (r .ensures) ∙ L .inv .1)
+    let told = c .before in
+    let read = told .before .before in
+    let at-loop = read .before .before .before .before .before in
+    let L = at-loop .loop in
+    let bytes = at-loop .before .before .args .bytes .now in
+    let r = read .octet in (
+      omega arith,
+      ap (λ (x : Next). goesOn x (drop (L .i + 1) bytes)) (sym (told .next .given .1)) ∙ owed-read bytes (L .i) (L .o) (r .result) (omega arith) (r .ensures) ∙ L .inv .1,
+    )
 
 returns-2 : tie.Need-returns-2 Inv-loop μ-loop
 returns-2 c =
-    let L = c .before .before .loop in
-    let bytes = c .before .before .before .before .args .bytes .now in
+    let at-loop = c .before .before in
+    let L = at-loop .loop in
+    let bytes = at-loop .before .before .args .bytes .now in
     let e : L .i ≡ length bytes = omega arith in
     let done : drop (L .i) bytes ≡ [] = rw (e, drop-length) in
     sym (owed-end (L .o .count) (L .o .low) (L .o .high)) ∙ ap (owed (ranges (L .o))) (sym done) ∙ L .inv .1

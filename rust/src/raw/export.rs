@@ -1,0 +1,127 @@
+//! The archive's functions. A new export has its lines here, and in raw.rs a function that lends it slices.
+
+use crate::Event;
+
+unsafe extern "C" {
+    pub fn pursegable_layout(
+        table: *const u32,
+        table_len: usize,
+        text: *const u8,
+        text_len: usize,
+        width: u32,
+        limit: u32,
+        out: *mut u8,
+        out_len: usize,
+        events: *mut Event,
+        events_len: usize,
+        work: *mut u32,
+        work_len: usize,
+        report: *mut u32,
+        report_len: usize,
+    ) -> u32;
+    pub fn pursegable_sheet(
+        table: *const u32,
+        table_len: usize,
+        text: *const u8,
+        text_len: usize,
+        out: *mut u8,
+        out_len: usize,
+        events: *mut Event,
+        events_len: usize,
+        work: *mut u32,
+        work_len: usize,
+        report: *mut u32,
+        report_len: usize,
+    ) -> u32;
+    pub fn pursegable_label(
+        table: *const u32,
+        table_len: usize,
+        text: *const u8,
+        text_len: usize,
+        out: *mut u8,
+        out_len: usize,
+        events: *mut Event,
+        events_len: usize,
+        work: *mut u32,
+        work_len: usize,
+        report: *mut u32,
+        report_len: usize,
+    ) -> u32;
+    pub fn pursegable_layout_words(
+        table: *const u32,
+        table_len: usize,
+        text: *const u8,
+        text_len: usize,
+        width: u32,
+        limit: u32,
+        out: *mut u8,
+        out_len: usize,
+        events: *mut u32,
+        events_len: usize,
+        work: *mut u32,
+        work_len: usize,
+        report: *mut u32,
+        report_len: usize,
+    ) -> u32;
+    pub fn pursegable_make(
+        what: u32,
+        a: u32,
+        b: u32,
+        c: u32,
+        table: *mut u32,
+        table_len: usize,
+        text: *mut u8,
+        text_len: usize,
+        counts: *mut u32,
+        counts_len: usize,
+    ) -> u32;
+    pub fn pursegable_text(
+        bytes: *const u8,
+        bytes_len: usize,
+        columns: u32,
+        table: *mut u32,
+        table_len: usize,
+        text: *mut u8,
+        text_len: usize,
+        counts: *mut u32,
+        counts_len: usize,
+    ) -> u32;
+    pub fn pursegable_concat(
+        nodes: *const u32,
+        nodes_len: usize,
+        table: *mut u32,
+        table_len: usize,
+        text: *const u8,
+        text_len: usize,
+        counts: *mut u32,
+        counts_len: usize,
+    ) -> u32;
+    pub fn pursegable_intersperse(
+        nodes: *const u32,
+        nodes_len: usize,
+        separator: u32,
+        table: *mut u32,
+        table_len: usize,
+        text: *const u8,
+        text_len: usize,
+        counts: *mut u32,
+        counts_len: usize,
+    ) -> u32;
+    pub fn pursegable_block(
+        body: u32,
+        amount: u32,
+        way: u32,
+        prefixes: *const u32,
+        prefixes_len: usize,
+        suffixes: *const u32,
+        suffixes_len: usize,
+        nests: *const u8,
+        nests_len: usize,
+        table: *mut u32,
+        table_len: usize,
+        text: *const u8,
+        text_len: usize,
+        counts: *mut u32,
+        counts_len: usize,
+    ) -> u32;
+}
