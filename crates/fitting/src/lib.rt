@@ -47,19 +47,22 @@ fn look(
     let a = table[at + 1];
     let b = table[at + 2];
     match kind {
-        0 => Step::Done(column),
-        1 => {
+        table::NIL => Step::Done(column),
+        table::APPEND => {
             waiting::push_fit(work, count, NodeNo(b));
             Step::Down(NodeNo(a), count + 1)
         }
-        2 | 4 | 7 | 9 => Step::Down(NodeNo(a), count),
-        3 => if mode.0 == 0 {
+        table::GROUP | table::NEST | table::ANNOTATED | table::ALIGN => Step::Down(
+            NodeNo(a),
+            count,
+        ),
+        table::FLAT_ALT => if mode.0 == 0 {
             Step::Down(NodeNo(a), count)
         } else {
             Step::Down(NodeNo(b), count)
         },
-        5 => if mode.0 == 0 { Step::Fits } else { Step::Wide },
-        6 => {
+        table::HARDLINE => if mode.0 == 0 { Step::Fits } else { Step::Wide },
+        table::TEXT => {
             let end = column.0 + table[at + 3];
             if end <= width {
                 Step::Done(Column(end))
@@ -67,7 +70,7 @@ fn look(
                 Step::Wide
             }
         }
-        8 => Step::Down(NodeNo(b), count),
+        table::UNION => Step::Down(NodeNo(b), count),
         _ => Step::Wide,
     }
 }
@@ -82,7 +85,7 @@ fn groups_down(table: &[u32], node: NodeNo, steps: u32) -> u32
     let mut down = 0;
     while down < steps {
         let at = (n as usize) * 4;
-        if table[at] != 2 {
+        if table[at] != table::GROUP {
             return down;
         }
         if table[at + 1] + 1 != n {
@@ -130,7 +133,7 @@ fn walked(
                         break 'down;
                     }
                     count -= 1;
-                    node = NodeNo(work[waiting::FIT + count]);
+                    node = waiting::fit_node(work, count);
                 }
                 Step::Fits => break 'waiting true,
                 Step::Wide => break 'waiting false,
@@ -141,7 +144,7 @@ fn walked(
             break 'waiting true;
         }
         at = next - 1;
-        node = NodeNo(work[at * 4]);
+        node = waiting::node_at(work, at);
         mode = Mode(0);
     };
     if fits {

@@ -1,3 +1,2 @@
--- Laws of the code's state, for those who lay a table out.
-pub mod Events
+-- Laws of a turn, for those who lay a table out.
 pub mod Arms

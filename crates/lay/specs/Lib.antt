@@ -1,3 +1,2 @@
 -- How the code's state is read, and what its functions promise.
-pub mod State
 pub mod Turning

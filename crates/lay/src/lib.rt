@@ -1,14 +1,14 @@
 // What the engine does at a node of each kind: one function a kind, over the state of a layout on its way.
 //
-// The node in hand stays in locals; what waits stands in the work area (see the crate waiting). Trials need no second buffer: their bytes and
-// events stand in the output, and are taken back by the counts that the end of the trial saved. Events are three words each here.
+// The node due stays in locals; what waits stands in the work area (crate waiting), bytes and events on the page (crate page). Trials need no
+// second buffer: their bytes and events stand on the page, and it is put back when the trial is given up.
 // Nothing here is an entry point of the library: each function says what it asks of its caller.
 use fitting::Fit;
-use rules::EVENT_WORDS;
-use table::Column;
+use page::Page;
+use page::Put;
 use table::Indent;
 use table::NodeNo;
-use waiting::Hand;
+use waiting::Due;
 use waiting::Mode;
 use waiting::Saved;
 ghost use mathlib.Core.Path.{_≡_};
@@ -21,27 +21,24 @@ ghost use Rattle.table.specs.Node.{wayOf};
 ghost use Rattle.rules.specs.Call.{eventWords};
 ghost use Rattle.rules.specs.Layout.{nested, wrote, fed};
 ghost use Rattle.machine.specs.Turn.{put, giveUp, grouped, on as going, event as noted};
-ghost use Rattle.machine.specs.Waiting.{node as waits, trial as tries, mark as closes, nextIndent};
+ghost use Rattle.machine.specs.Waiting.{node as waits, trial as tries, closing, save, nextIndent};
+ghost use Rattle.waiting.specs.Area.{areaWords, dueOf};
 ghost use Rattle.waiting.specs.Stack.{modeOf, flagOf, stackOf};
 ghost use Rattle.fitting.specs.Fitting.{Fitting};
-ghost use Rattle.lay.specs.State.{handOf, restoredOf};
-ghost use Rattle.lay.specs.Turning.{Kept, Wrote, Noted, Annotated, Restoring};
+ghost use Rattle.lay.specs.Turning.{restoredOf, Kept, Wrote, Annotated, Restoring};
 
-// A layout on its way: the column, the steps left, the bytes and the events so far, whether a Text ended past width in the innermost trial
-// (0 is no), and how many entries wait. Counts are as wide as a place in a buffer, and the state comes first in a turn: then a compiler
-// keeps each in a register of its own (docs/PERFORMANCE.md).
+// A layout on its way: the page, the steps left, whether a Text ended past width in the innermost trial (0 is no), and how many entries wait.
+// The state comes first in a turn: then a compiler keeps each of its numbers in a register of its own (docs/PERFORMANCE.md).
 pub struct State {
-    pub column: Column,
+    pub page: Page,
     pub left: u32,
-    pub used: usize,
-    pub marks: usize,
-    pub over: u32,
+    pub past: u32,
     pub depth: usize,
 }
 
-// Where a turn leads: a node goes on in hand; the node is done; or the run stops, with the answer, the place and the steps left.
+// Where a turn leads: a node is due; the node is done; or the run stops, with the answer, the place and the steps left.
 pub enum Turn {
-    Go(State, Hand),
+    Go(State, Due),
     Done(State),
     Stop(u32, NodeNo, u32),
 }
@@ -56,73 +53,55 @@ pub fn lay_text(
     len: u32,
     columns: u32,
 ) -> Turn
-    requires { ⌜ (from + len ≤ length (now text)) × (length (now text) ≤ 65536) × (s .column .0 ≤ 65536) × (columns ≤ 65536) × (s .used ≤ length (now out)) × (length (now out) ≤ 65536) ⌝ }
-    ensures { λ r. ⌜ Wrote s (now (out .entry)) r (now (out .exit)) (λ L p w. put L (wrote (take len (drop from (now (text .entry)))) columns p) (s .left) (flagOf (s .over) || ltb width (s .column .0 + columns)) w) ⌝ }
+    requires { ⌜ (from + len ≤ length (now text)) × (length (now text) ≤ 65536) × (columns ≤ 65536) ⌝ }
+    requires { ⌜ (s .page .column .0 ≤ 65536) × (s .page .used ≤ length (now out)) × (length (now out) ≤ 65536) ⌝ }
+    ensures { λ r. ⌜ Wrote s (now (out .entry)) r (now (out .exit))
+        (wrote (take len (drop from (now (text .entry)))) columns)
+        (flagOf (s .past) || ltb width (s .page .column .0 + columns)) ⌝ }
 {
-    let used = s.used;
-    let n = len as usize;
-    if out.len() - used < n {
-        return Turn::Stop(8, NodeNo(0), s.left);
+    let now = s.page;
+    match page::write_text(text, from, len, columns, out, now) {
+        Put::On(page) => {
+            let past = if width < page.column.0 { 1 } else { s.past };
+            Turn::Done(State {
+                page,
+                left: s.left,
+                past,
+                depth: s.depth,
+            })
+        }
+        Put::Full => Turn::Stop(8, NodeNo(0), s.left),
     }
-    buffer::copy_over(text, from as usize, n, out, used);
-    let end = s.column.0 + columns;
-    let over = if width < end { 1 } else { s.over };
-    Turn::Done(State {
-        column: Column(end),
-        left: s.left,
-        used: used + n,
-        marks: s.marks,
-        over,
-        depth: s.depth,
-    })
 }
 
-// A Hardline and its blanks are written whole, or refused.
+// A Hardline and its blanks are written whole, or refused: to the indentation of the next waiting node, else its own.
 pub fn lay_hardline(out: &mut [u8], work: &[u32], s: State, own: Indent) -> Turn
-    requires { ⌜ (s .depth ≤ 1024) × (8192 ≤ length (now work)) × (s .used ≤ length (now out)) × (length (now out) ≤ 65536) ⌝ }
-    ensures { λ r. ⌜ Wrote s (now (out .entry)) r (now (out .exit)) (λ L p w. put L (fed (nextIndent (own .0) (stackOf (s .depth) (now (work .entry)))) p) (s .left) (flagOf (s .over)) w) ⌝ }
+    requires { ⌜ (s .depth ≤ 1024) × (areaWords ≤ length (now work)) ⌝ }
+    requires { ⌜ (s .page .used ≤ length (now out)) × (length (now out) ≤ 65536) ⌝ }
+    ensures { λ r. ⌜ Wrote s (now (out .entry)) r (now (out .exit))
+        (fed (nextIndent (own .0) (stackOf (s .depth) (now (work .entry)))))
+        (flagOf (s .past)) ⌝ }
 {
-    let depth = s.depth;
-    let d = waiting::nearest(work, depth, waiting::NODE);
-    let indent = if d == 0 { own.0 } else { work[d * 4 - 3] };
-    let used = s.used;
-    let n = indent as usize;
-    if out.len() - used <= n {
-        return Turn::Stop(8, NodeNo(0), s.left);
+    let now = s.page;
+    let indent = waiting::next_indent(work, s.depth, own);
+    match page::feed_line(out, now, indent) {
+        Put::On(page) => Turn::Done(State {
+            page,
+            left: s.left,
+            past: s.past,
+            depth: s.depth,
+        }),
+        Put::Full => Turn::Stop(8, NodeNo(0), s.left),
     }
-    buffer::newline(out, used, n);
-    Turn::Done(State {
-        column: Column(indent),
-        left: s.left,
-        used: used + 1 + n,
-        marks: s.marks,
-        over: s.over,
-        depth,
-    })
 }
 
-// An event is noted, or there is no room for it.
-pub fn put_event(events: &mut [u32], marks: usize, offset: usize, mark: u32, label: u32) -> bool
-    requires { ⌜ (marks * eventWords ≤ length (now events)) × (length (now events) / eventWords ≤ 4096) × (offset ≤ 65536) ⌝ }
-    ensures { λ r. ⌜ Noted (now (events .entry)) marks offset mark label r (now (events .exit)) ⌝ }
+// A node is due with the indentation and the mode of another.
+pub fn child_of(due: Due, child: u32) -> Due
+    ensures { λ r. ⌜ r ≡ dueOf child (due .indent .0) (due .mode .0) ⌝ }
 {
-    let at = marks * EVENT_WORDS;
-    if events.len() - at < EVENT_WORDS {
-        return false;
-    }
-    events[at] = offset as u32;
-    events[at + 1] = mark;
-    events[at + 2] = label;
-    true
-}
-
-// A node goes on with the indentation and the mode of another.
-pub fn child_of(hand: Hand, child: u32) -> Hand
-    ensures { λ r. ⌜ r ≡ handOf child (hand .indent .0) (hand .mode .0) ⌝ }
-{
-    let indent = hand.indent;
-    let mode = hand.mode;
-    Hand {
+    let indent = due.indent;
+    let mode = due.mode;
+    Due {
         node: NodeNo(child),
         indent,
         mode,
@@ -130,39 +109,40 @@ pub fn child_of(hand: Hand, child: u32) -> Hand
 }
 
 // The first goes on, the second waits.
-pub fn lay_append(work: &mut [u32], s: State, hand: Hand, first: u32, second: u32) -> Turn
-    requires { ⌜ (s .depth < 1024) × (8192 ≤ length (now work)) ⌝ }
-    ensures { λ r. ⌜ Kept s r (now (work .exit)) (λ p. going p (s .left) (flagOf (s .over)) (waits first (hand .indent .0) (modeOf (hand .mode .0)) ∷ waits second (hand .indent .0) (modeOf (hand .mode .0)) ∷ stackOf (s .depth) (now (work .entry)))) ⌝ }
+pub fn lay_append(work: &mut [u32], s: State, due: Due, first: u32, second: u32) -> Turn
+    requires { ⌜ (s .depth < 1024) × (areaWords ≤ length (now work)) ⌝ }
+    ensures { λ r. ⌜ Kept s r (now (work .exit)) (λ p. going p (s .left) (flagOf (s .past))
+        (waits first (due .indent .0) (modeOf (due .mode .0))
+        ∷ waits second (due .indent .0) (modeOf (due .mode .0))
+        ∷ stackOf (s .depth) (now (work .entry)))) ⌝ }
 {
     let depth = s.depth;
-    waiting::push_node(work, depth, child_of(hand, second));
+    waiting::push_node(work, depth, child_of(due, second));
     let mut next = s;
     next.depth = depth + 1;
-    Turn::Go(next, child_of(hand, first))
+    Turn::Go(next, child_of(due, first))
 }
 
 // The first arm goes on as a trial.
-pub fn lay_union(work: &mut [u32], s: State, hand: Hand, first: u32, second: u32) -> Turn
-    requires { ⌜ (s .depth < 1024) × (8192 ≤ length (now work)) × (s .used ≤ 65536) × (s .marks ≤ 4096) ⌝ }
-    ensures { λ r. ⌜ Kept s r (now (work .exit)) (λ p. going p (s .left) false (waits first (hand .indent .0) (modeOf (hand .mode .0)) ∷ tries second (hand .indent .0) (modeOf (hand .mode .0)) (record { column = p .column; bytes = length (p .out); events = length (p .events); over = flagOf (s .over) }) ∷ stackOf (s .depth) (now (work .entry)))) ⌝ }
+pub fn lay_union(work: &mut [u32], s: State, due: Due, first: u32, second: u32) -> Turn
+    requires { ⌜ (s .depth < 1024) × (areaWords ≤ length (now work)) × (s .page .used ≤ 65536) × (s .page .events ≤ 4096) ⌝ }
+    ensures { λ r. ⌜ Kept s r (now (work .exit)) (λ p. going p (s .left) false
+        (waits first (due .indent .0) (modeOf (due .mode .0))
+        ∷ tries second (due .indent .0) (modeOf (due .mode .0)) (save p (flagOf (s .past)))
+        ∷ stackOf (s .depth) (now (work .entry)))) ⌝ }
 {
     let depth = s.depth;
-    let column = s.column;
+    let page = s.page;
     waiting::push_trial(
         work,
         depth,
-        child_of(hand, second),
-        Saved {
-            column,
-            used: s.used as u32,
-            marks: s.marks as u32,
-            over: s.over,
-        },
+        child_of(due, second),
+        Saved { page, past: s.past },
     );
     let mut next = s;
     next.depth = depth + 1;
-    next.over = 0;
-    Turn::Go(next, child_of(hand, first))
+    next.past = 0;
+    Turn::Go(next, child_of(due, first))
 }
 
 // A group's child goes on, flat or broken as the fit test says; met flat it stays flat and nothing is tested.
@@ -171,25 +151,26 @@ pub fn lay_group(
     work: &mut [u32],
     width: u32,
     s: State,
-    hand: Hand,
+    due: Due,
     child: u32,
 ) -> Turn
-    requires { ⌜ Fitting (now table) (now work) width child (s .depth) (s .column .0) ⌝ }
-    ensures { λ r. ⌜ Kept s r (now (work .exit)) (λ p. grouped (now (table .entry)) width (modeOf (hand .mode .0)) child (hand .indent .0) p (s .left) (flagOf (s .over)) (stackOf (s .depth) (now (work .entry)))) ⌝ }
+    requires { ⌜ Fitting (now table) (now work) width child (s .depth) (s .page .column .0) ⌝ }
+    ensures { λ r. ⌜ Kept s r (now (work .exit)) (λ p. grouped (now (table .entry)) width (modeOf (due .mode .0)) child (due .indent .0)
+        p (s .left) (flagOf (s .past)) (stackOf (s .depth) (now (work .entry)))) ⌝ }
 {
-    if hand.mode.0 != 0 {
-        return Turn::Go(s, child_of(hand, child));
+    if due.mode.0 != 0 {
+        return Turn::Go(s, child_of(due, child));
     }
     let depth = s.depth;
-    let column = s.column;
-    let indent = hand.indent;
+    let column = s.page.column;
+    let indent = due.indent;
     let mut next = s;
     match fitting::fitting(table, work, width, NodeNo(child), depth, column, s.left) {
         Fit::Yes(left) => {
             next.left = left;
             Turn::Go(
                 next,
-                Hand {
+                Due {
                     node: NodeNo(child),
                     indent,
                     mode: Mode(1),
@@ -200,7 +181,7 @@ pub fn lay_group(
             next.left = left;
             Turn::Go(
                 next,
-                Hand {
+                Due {
                     node: NodeNo(child),
                     indent,
                     mode: Mode(0),
@@ -211,24 +192,24 @@ pub fn lay_group(
     }
 }
 
-// The state as the end of a trial at height d saved it.
+// The trial that ends at height d is given up: the state is as it was before the Union, but for the steps left.
 pub fn restored(s: State, saved: Saved, d: usize) -> State
     ensures { λ r. ⌜ r ≡ restoredOf (s .left) saved d ⌝ }
 {
-    let column = saved.column;
+    let now = s.page;
+    let then = saved.page;
+    let page = page::put_back(now, then);
     State {
-        column,
+        page,
         left: s.left,
-        used: saved.used as usize,
-        marks: saved.marks as usize,
-        over: saved.over,
+        past: saved.past,
         depth: d,
     }
 }
 
-// The innermost trial is given up, if there is one: its second arm goes on.
+// The innermost trial is given up, if there is one: its second arm stands in its place.
 pub fn lay_fail(work: &[u32], s: State) -> Turn
-    requires { ⌜ (s .depth ≤ 1024) × (8192 ≤ length (now work)) ⌝ }
+    requires { ⌜ (s .depth ≤ 1024) × (areaWords ≤ length (now work)) ⌝ }
     ensures { λ r. ⌜ Restoring s (now (work .entry)) r (λ p. giveUp p (s .left) (stackOf (s .depth) (now (work .entry)))) ⌝ }
 {
     let depth = s.depth;
@@ -237,7 +218,7 @@ pub fn lay_fail(work: &[u32], s: State) -> Turn
         return Turn::Stop(6, NodeNo(0), s.left);
     }
     let saved = waiting::saved_at(work, d - 1);
-    Turn::Go(restored(s, saved, d - 1), waiting::hand_at(work, d - 1))
+    Turn::Go(restored(s, saved, d - 1), waiting::due_at(work, d - 1))
 }
 
 // An annotation opens; its child goes on with its end waiting.
@@ -245,23 +226,31 @@ pub fn lay_annotated(
     events: &mut [u32],
     work: &mut [u32],
     s: State,
-    hand: Hand,
+    due: Due,
     child: u32,
     label: u32,
 ) -> Turn
-    requires { ⌜ (s .depth < 1024) × (8192 ≤ length (now work)) × (s .marks * eventWords ≤ length (now events)) × (length (now events) / eventWords ≤ 4096) × (s .used ≤ 65536) ⌝ }
-    ensures { λ r. ⌜ Annotated s (now (events .entry)) r (now (events .exit)) (now (work .exit)) (λ L p. noted L (hand .node .0) 1 label p (s .left) (flagOf (s .over)) (waits child (hand .indent .0) (modeOf (hand .mode .0)) ∷ closes (hand .node .0) label ∷ stackOf (s .depth) (now (work .entry)))) ⌝ }
+    requires { ⌜ (s .depth < 1024) × (areaWords ≤ length (now work)) ⌝ }
+    requires { ⌜ (s .page .events * eventWords ≤ length (now events)) × (length (now events) / eventWords ≤ 4096) × (s .page .used ≤ 65536) ⌝ }
+    ensures { λ r. ⌜ Annotated s (now (events .entry)) r (now (events .exit)) (now (work .exit))
+        (λ L p. noted L (due .node .0) 1 label p (s .left) (flagOf (s .past))
+        (waits child (due .indent .0) (modeOf (due .mode .0)) ∷ closing (due .node .0) label ∷ stackOf (s .depth) (now (work .entry)))) ⌝ }
 {
-    let node = hand.node;
-    if !put_event(events, s.marks, s.used, 1, label) {
+    let node = due.node;
+    let now = s.page;
+    let Put::On(page) = page::note_event(events, now, 1, label) else {
         return Turn::Stop(9, node, s.left);
-    }
-    let depth = s.depth;
-    waiting::push_mark(work, depth, node, label);
-    let mut next = s;
-    next.depth = depth + 1;
-    next.marks = s.marks + 1;
-    Turn::Go(next, child_of(hand, child))
+    };
+    waiting::push_closing(work, s.depth, node, label);
+    Turn::Go(
+        State {
+            page,
+            left: s.left,
+            past: s.past,
+            depth: s.depth + 1,
+        },
+        child_of(due, child),
+    )
 }
 
 // An indentation by a Nest's amount and way.

@@ -13,7 +13,7 @@ use lib.ListN.{length}
 use Rattle.table.specs.Node.{nodeAt}
 use Rattle.table.specs.Sound.{AllSound}
 use Rattle.rules.specs.Layout.{Page}
-use Rattle.machine.specs.Waiting.{Entry, node, trial, mark}
+use Rattle.machine.specs.Waiting.{Entry, node, trial, closing}
 use Rattle.machine.specs.Fit.{Item, item, Walked}
 use Rattle.machine.specs.Turn.{Env, Turned}
 use Rattle.machine.specs.Well.{Stacked, weight, Well, FitStacked}
@@ -22,32 +22,32 @@ use Rattle.machine.proofs.Kept.{Next, turn-next, FitNext, walked-next}
 
 -- ---- what the invariant says of a stack
 
-below-top : (N bytes events : ℕ) (e : Entry) (w : List Entry) → Stacked N bytes events (e ∷ w) → length w < N
-below-top N b v (node n i m) w s = omega (arith, s .0)
-below-top N b v (trial n i m a) w s = omega (arith, s .0)
-below-top N b v (mark n l) w s = omega (arith, s .0)
+below-top : (N room bytes events : ℕ) (e : Entry) (w : List Entry) → Stacked N room bytes events (e ∷ w) → length w < N
+below-top N r b v (node n i m) w s = omega (arith, s .0 .number)
+below-top N r b v (trial n i m a) w s = omega (arith, s .0 .number)
+below-top N r b v (closing n l) w s = omega (arith, s .0)
 
-indents : (N bytes events : ℕ) (w : List Entry) → N ≤ 1024 → Stacked N bytes events w → Indents 1088536 w
-indents N b v [] few s = tt
-indents N b v (node n i m ∷ w) few s = (omega (arith, s .1), indents N b v w few (s .2))
-indents N b v (trial n i m a ∷ w) few s = (omega (arith, s .1), indents N (a .bytes) (a .events) w few (s .5))
-indents N b v (mark n l ∷ w) few s = indents N b v w few (s .1)
+indents : (N room bytes events : ℕ) (w : List Entry) → N ≤ 1024 → Stacked N room bytes events w → Indents 1088536 w
+indents N r b v [] few s = tt
+indents N r b v (node n i m ∷ w) few s = (omega (arith, s .0), indents N r b v w few (s .1))
+indents N r b v (trial n i m a ∷ w) few s = (omega (arith, s .0), indents N r (a .bytes) (a .events) w few (s .2))
+indents N r b v (closing n l ∷ w) few s = indents N r b v w few (s .1)
 
 -- ---- a run
 
 module _ (E : Env) (N : ℕ) (some : 0 < N) (few : N ≤ 1024) (valid : AllSound (E .table) (length (E .str)) N) (room : E .limits .room ≤ 65536) where
-  reached-well : {p : Page} {left : ℕ} {over : Bool} {w : List Entry} → Reached E (N - 1) p left over w → Well (E .limits) N p w
-  reached-well start = record { column = omega arith; fits = omega arith; room = room; stack = (omega arith, omega arith, tt) }
-  reached-well (turned {p = p} {left = left} {over = over} {e = e} {w = w} r t) =
-      subst (λ (x : Turned). Next (E .limits) N left (3 * left + weight (e ∷ w)) x) t (turn-next E N valid p left over e w (reached-well r)) .0
+  reached-well : {p : Page} {left : ℕ} {past : Bool} {w : List Entry} → Reached E (N - 1) p left past w → Well (E .limits) N p w
+  reached-well start = record { column = omega arith; fits = omega arith; room = room; stack = (record { number = omega arith; indent = omega arith }, tt) }
+  reached-well (turned {p = p} {left = left} {past = past} {e = e} {w = w} r t) =
+      subst (λ (x : Turned). Next (E .limits) N left (3 * left + weight (e ∷ w)) x) t (turn-next E N valid p left past e w (reached-well r)) .0
 
-  pub waiting-bound : {p : Page} {left : ℕ} {over : Bool} {e : Entry} {w : List Entry} → Reached E (N - 1) p left over (e ∷ w) → length w ≤ 1023
-  waiting-bound {e = e} {w = w} r = omega (arith, below-top N _ _ e w (reached-well r .stack))
+  pub waiting-bound : {p : Page} {left : ℕ} {past : Bool} {e : Entry} {w : List Entry} → Reached E (N - 1) p left past (e ∷ w) → length w ≤ 1023
+  waiting-bound {e = e} {w = w} r = omega (arith, below-top N _ _ _ e w (reached-well r .stack))
 
-  pub indent-bound : {p : Page} {left : ℕ} {over : Bool} {w : List Entry} → Reached E (N - 1) p left over w → Indents 1088536 w
-  indent-bound {w = w} r = indents N _ _ w few (reached-well r .stack)
+  pub indent-bound : {p : Page} {left : ℕ} {past : Bool} {w : List Entry} → Reached E (N - 1) p left past w → Indents 1088536 w
+  indent-bound {w = w} r = indents N _ _ _ w few (reached-well r .stack)
 
-  pub column-bound : {p : Page} {left : ℕ} {over : Bool} {w : List Entry} → Reached E (N - 1) p left over w → p .column ≤ 65536
+  pub column-bound : {p : Page} {left : ℕ} {past : Bool} {w : List Entry} → Reached E (N - 1) p left past w → p .column ≤ 65536
   column-bound r = let q = reached-well r in omega (arith, q .column, q .fits, room)
 
 -- ---- a fit test

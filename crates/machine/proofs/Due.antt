@@ -40,17 +40,17 @@ module _ (E : Env) (N : ℕ) (some : 0 < N) (few : N ≤ 1024) (valid : AllSound
   outcome = lay (E .limits) (at (N - 1)) 0 broken [] blank 0
 
   -- what holds of every state that the run comes through
-  record Through (p : Page) (left : ℕ) (over : Bool) (w : List Entry) : Type 0 where
+  record Through (p : Page) (left : ℕ) (past : Bool) (w : List Entry) : Type 0 where
     well : Well (E .limits) N p w
     within : left ≤ E .limits .limit
-    same : whole (E .limits) at p w over (E .limits .limit - left) ≡ outcome
+    same : whole (E .limits) at p w past (E .limits .limit - left) ≡ outcome
 
   starts : Through blank (E .limits .limit) false (node (N - 1) 0 broken ∷ [])
   unfolding finish waiting
   starts =
       let e : E .limits .limit - E .limits .limit ≡ 0 = omega arith in
       record {
-        well = record { column = omega arith; fits = omega arith; room = room; stack = (omega arith, omega arith, tt) };
+        well = record { column = omega arith; fits = omega arith; room = room; stack = (record { number = omega arith; indent = omega arith }, tt) };
         within = omega arith;
         same =
             whole-node (E .limits) at blank (N - 1) 0 broken [] false _
@@ -59,44 +59,44 @@ module _ (E : Env) (N : ℕ) (some : 0 < N) (few : N ≤ 1024) (valid : AllSound
       }
 
   -- where a turn leads from there
-  leads : {p : Page} {left : ℕ} {over : Bool} {e : Entry} {w : List Entry} → Through p left over (e ∷ w)
-      → Onward E at (dueTurn E at p left e w) (whole (E .limits) at p (e ∷ w) over (E .limits .limit - left)) (turn E p left over e w)
-  leads {p} {left} {over} {e} {w} h =
-      turn-is E at N valid (λ n l. tree-node (E .table) (E .str) n (length (E .str)) (valid n l)) p left over e w (h .within) (h .well)
+  leads : {p : Page} {left : ℕ} {past : Bool} {e : Entry} {w : List Entry} → Through p left past (e ∷ w)
+      → Onward E at (dueTurn E at p left e w) (whole (E .limits) at p (e ∷ w) past (E .limits .limit - left)) (turn E p left past e w)
+  leads {p} {left} {past} {e} {w} h =
+      turn-is E at N valid (λ n l. tree-node (E .table) (E .str) n (length (E .str)) (valid n l)) p left past e w (h .within) (h .well)
 
-  goes-on : {p p′ : Page} {left left′ : ℕ} {over over′ : Bool} {e : Entry} {w w′ : List Entry}
-      → Through p left over (e ∷ w) → turn E p left over e w ≡ on p′ left′ over′ w′ → Through p′ left′ over′ w′
-  goes-on {p} {p′} {left} {left′} {over} {over′} {e} {w} {w′} h t =
-      let next = subst (λ x. Next (E .limits) N left (3 * left + weight (e ∷ w)) x) t (turn-next E N valid p left over e w (h .well)) in
-      let same = subst (λ x. Onward E at (dueTurn E at p left e w) (whole (E .limits) at p (e ∷ w) over (E .limits .limit - left)) x) t (leads h) in
+  goes-on : {p p′ : Page} {left left′ : ℕ} {past past′ : Bool} {e : Entry} {w w′ : List Entry}
+      → Through p left past (e ∷ w) → turn E p left past e w ≡ on p′ left′ past′ w′ → Through p′ left′ past′ w′
+  goes-on {p} {p′} {left} {left′} {past} {past′} {e} {w} {w′} h t =
+      let next = subst (λ x. Next (E .limits) N left (3 * left + weight (e ∷ w)) x) t (turn-next E N valid p left past e w (h .well)) in
+      let same = subst (λ x. Onward E at (dueTurn E at p left e w) (whole (E .limits) at p (e ∷ w) past (E .limits .limit - left)) x) t (leads h) in
       record { well = next .0; within = omega (arith, next .1, h .within); same = sym same ∙ h .same }
 
-  through : {p : Page} {left : ℕ} {over : Bool} {w : List Entry} → Reached E (N - 1) p left over w → Through p left over w
+  through : {p : Page} {left : ℕ} {past : Bool} {w : List Entry} → Reached E (N - 1) p left past w → Through p left past w
   through start = starts
   through (turned r t) = goes-on (through r) t
 
-  pub reached-is : {p : Page} {left : ℕ} {over : Bool} {w : List Entry}
-      → Reached E (N - 1) p left over w → whole (E .limits) at p w over (E .limits .limit - left) ≡ outcome
+  pub reached-is : {p : Page} {left : ℕ} {past : Bool} {w : List Entry}
+      → Reached E (N - 1) p left past w → whole (E .limits) at p w past (E .limits .limit - left) ≡ outcome
   reached-is r = through r .same
 
-  pub stop-is : {p : Page} {left : ℕ} {over : Bool} {e : Entry} {w : List Entry} (a n left′ : ℕ)
-      → Reached E (N - 1) p left over (e ∷ w) → turn E p left over e w ≡ stop a n left′
+  pub stop-is : {p : Page} {left : ℕ} {past : Bool} {e : Entry} {w : List Entry} (a n left′ : ℕ)
+      → Reached E (N - 1) p left past (e ∷ w) → turn E p left past e w ≡ stop a n left′
       → seen outcome ≡ record { told = ended E a n left′; due = dueTurn E at p left e w }
-  stop-is {p} {left} {over} {e} {w} a n left′ r t =
+  stop-is {p} {left} {past} {e} {w} a n left′ r t =
       ap seen (sym (reached-is r))
-      ∙ subst (λ x. Onward E at (dueTurn E at p left e w) (whole (E .limits) at p (e ∷ w) over (E .limits .limit - left)) x) t (leads (through r))
+      ∙ subst (λ x. Onward E at (dueTurn E at p left e w) (whole (E .limits) at p (e ∷ w) past (E .limits .limit - left)) x) t (leads (through r))
 
   -- a node that is due with no step left
-  pub due-node : {p : Page} {over : Bool} {w : List Entry} (n i : ℕ) (m : Mode)
-      → Reached E (N - 1) p zero over (node n i m ∷ w)
+  pub due-node : {p : Page} {past : Bool} {w : List Entry} (n i : ℕ) (m : Mode)
+      → Reached E (N - 1) p zero past (node n i m ∷ w)
       → seen outcome ≡ record { told = ended E 7 n 0; due = dueAt E at (nodeAt (E .table) n) m (waiting (E .limits) at w) (p .column) }
   unfolding turn
   due-node n i m r = stop-is 7 n 0 r refl
 
-  pub group-due : {p : Page} {over : Bool} {w : List Entry} (n i a : ℕ)
-      → Reached E (N - 1) p zero over (node n i broken ∷ w) → nodeAt (E .table) n ≡ group a
+  pub group-due : {p : Page} {past : Bool} {w : List Entry} (n i a : ℕ)
+      → Reached E (N - 1) p zero past (node n i broken ∷ w) → nodeAt (E .table) n ≡ group a
       → (W : ℕ) → atVisit W outcome ≡ told (reason W (at a) (waiting (E .limits) at w) (p .column))
-  group-due {p} {over} {w} n i a r e W =
+  group-due {p} {past} {w} n i a r e W =
       let s = due-node n i broken r in
       visit-told W outcome (at a) (waiting (E .limits) at w) (p .column) (ap (λ z. z .told .answer) s)
       (ap (λ z. z .due) s ∙ ap (λ x. dueAt E at x broken (waiting (E .limits) at w) (p .column)) e)

@@ -13,7 +13,7 @@ use borrow.Author.Tests.{eq-eqb, ne-eqb}
 use Rattle.table.specs.Unfold.{Tree}
 use Rattle.rules.specs.Layout.{Limits, Page, Mode, Event, Refusal, Outcome, done, failed, refused, next, also, andThen, try}
 use Rattle.rules.specs.Layout as rules
-use Rattle.machine.specs.Waiting.{Saved, Entry, node, trial, mark, back, nextIndent}
+use Rattle.machine.specs.Waiting.{Saved, save, Entry, node, trial, closing, back, nextIndent}
 use Rattle.machine.specs.Well.{Stacked}
 
 -- ---- a step, where `left` of the limit are left
@@ -73,7 +73,7 @@ back-same a b v p q h g e =
     rw (outs, marks)
 
 -- a page that was just saved is put back
-pub back-now : (p : Page) (o : Bool) → back (record { column = p .column; bytes = length (p .out); events = length (p .events); over = o }) p ≡ p
+pub back-now : (p : Page) (o : Bool) → back (save p o) p ≡ p
 back-now p o = rw (take-length (p .out), take-length (p .events))
 
 pub back-agrees : (a : Saved) (p : Page) → Agree (a .bytes) (a .events) (back a p) p
@@ -95,21 +95,21 @@ module _ (L : Limits) (at : ℕ → Tree) where
   waiting [] = []
   waiting (node n i m ∷ w) = record { what = at n; ind = i } ∷ waiting w
   waiting (trial b i m a ∷ w) = waiting w
-  waiting (mark n l ∷ w) = waiting w
+  waiting (closing n l ∷ w) = waiting w
 
   pub next-is : (i : ℕ) (w : List Entry) → next (waiting w) i ≡ nextIndent i w
   unfolding waiting
   next-is i [] = refl
   next-is i (node n j m ∷ w) = refl
   next-is i (trial b j m a ∷ w) = next-is i w
-  next-is i (mark n l ∷ w) = next-is i w
+  next-is i (closing n l ∷ w) = next-is i w
 
   -- What was on top ended as x, trials put back from the page p, and o says whether a Text laid before in the innermost trial ended past width.
   unfoldable pub finish : Page → List Entry → Bool → Outcome → Outcome
   finish p [] o x = also o x
   finish p (node n i m ∷ w) o x = finish p w o (andThen x (λ p s. rules.lay L (at n) i m (waiting w) p s))
-  finish p (trial b i m a ∷ w) o x = finish (back a p) w (a .over) (try (also o x) (λ s. rules.lay L (at b) i m (waiting w) (back a p) s))
-  finish p (mark n l ∷ w) o x = finish p w o (andThen x (λ p s. rules.event L n 0 l p s))
+  finish p (trial b i m a ∷ w) o x = finish (back a p) w (a .past) (try (also o x) (λ s. rules.lay L (at b) i m (waiting w) (back a p) s))
+  finish p (closing n l ∷ w) o x = finish p w o (andThen x (λ p s. rules.event L n 0 l p s))
 
   unfoldable pub whole : Page → List Entry → Bool → ℕ → Outcome
   whole p w o s = finish p w o (done p false s)
@@ -120,25 +120,25 @@ module _ (L : Limits) (at : ℕ → Tree) where
   finish-also p [] o q x = also-also o q x
   finish-also p (node n i m ∷ w) o q x = ap (finish p w o) (then-also q x _) ∙ finish-also p w o q _
   finish-also p (trial b i m a ∷ w) o q x =
-      ap (λ y. finish (back a p) w (a .over) (try y (λ s. rules.lay L (at b) i m (waiting w) (back a p) s))) (also-also o q x)
-  finish-also p (mark n l ∷ w) o q x = ap (finish p w o) (then-also q x _) ∙ finish-also p w o q _
+      ap (λ y. finish (back a p) w (a .past) (try y (λ s. rules.lay L (at b) i m (waiting w) (back a p) s))) (also-also o q x)
+  finish-also p (closing n l ∷ w) o q x = ap (finish p w o) (then-also q x _) ∙ finish-also p w o q _
 
   -- a refusal ends the whole call
   pub finish-refused : (p : Page) (w : List Entry) (o : Bool) (r : Refusal) (n s : ℕ) → finish p w o (refused r n s) ≡ refused r n s
   unfolding finish
   finish-refused p [] o r n s = refl
   finish-refused p (node a i m ∷ w) o r n s = finish-refused p w o r n s
-  finish-refused p (trial b i m a ∷ w) o r n s = finish-refused (back a p) w (a .over) r n s
-  finish-refused p (mark a l ∷ w) o r n s = finish-refused p w o r n s
+  finish-refused p (trial b i m a ∷ w) o r n s = finish-refused (back a p) w (a .past) r n s
+  finish-refused p (closing a l ∷ w) o r n s = finish-refused p w o r n s
 
   -- only what was saved counts of the page that trials put back from
-  pub finish-same : (N b v : ℕ) (p q : Page) (w : List Entry) (o : Bool) (x : Outcome) → Stacked N b v w → Agree b v p q → finish p w o x ≡ finish q w o x
+  pub finish-same : (N r b v : ℕ) (p q : Page) (w : List Entry) (o : Bool) (x : Outcome) → Stacked N r b v w → Agree b v p q → finish p w o x ≡ finish q w o x
   unfolding finish
-  finish-same N b v p q [] o x s e = refl
-  finish-same N b v p q (node n i m ∷ w) o x s e = finish-same N b v p q w o _ (s .2) e
-  finish-same N b v p q (trial d i m a ∷ w) o x s e =
-      ap (λ r. finish r w (a .over) (try (also o x) (λ s. rules.lay L (at d) i m (waiting w) r s))) (back-same a b v p q (s .3) (s .4) e)
-  finish-same N b v p q (mark n l ∷ w) o x s e = finish-same N b v p q w o _ (s .1) e
+  finish-same N r b v p q [] o x s e = refl
+  finish-same N r b v p q (node n i m ∷ w) o x s e = finish-same N r b v p q w o _ (s .1) e
+  finish-same N r b v p q (trial d i m a ∷ w) o x s e =
+      ap (λ r. finish r w (a .past) (try (also o x) (λ s. rules.lay L (at d) i m (waiting w) r s))) (back-same a b v p q (s .1 .bytes) (s .1 .events) e)
+  finish-same N r b v p q (closing n l ∷ w) o x s e = finish-same N r b v p q w o _ (s .1) e
 
   -- the node on top
   pub whole-node : (p : Page) (n i : ℕ) (m : Mode) (w : List Entry) (o : Bool) (s : ℕ)
@@ -147,9 +147,9 @@ module _ (L : Limits) (at : ℕ → Tree) where
   whole-node p n i m w o s = ap (finish p w o) (also-false _)
 
   -- a page that was written or marked
-  pub whole-done : (N : ℕ) (p q : Page) (w : List Entry) (o past : Bool) (s : ℕ)
-      → Stacked N (length (p .out)) (length (p .events)) w → Agree (length (p .out)) (length (p .events)) p q
-      → finish p w o (done q past s) ≡ whole q w (o || past) s
+  pub whole-done : (N r : ℕ) (p q : Page) (w : List Entry) (o ends-past : Bool) (s : ℕ)
+      → Stacked N r (length (p .out)) (length (p .events)) w → Agree (length (p .out)) (length (p .events)) p q
+      → finish p w o (done q ends-past s) ≡ whole q w (o || ends-past) s
   unfolding whole
-  whole-done N p q w o past s k e =
-      finish-same N _ _ p q w o _ k e ∙ ap (λ b. finish q w o (done q b s)) (sym (or-false past)) ∙ finish-also q w o past (done q false s)
+  whole-done N r p q w o ends-past s k e =
+      finish-same N r _ _ p q w o _ k e ∙ ap (λ b. finish q w o (done q b s)) (sym (or-false ends-past)) ∙ finish-also q w o ends-past (done q false s)

@@ -12,7 +12,7 @@ use Rattle.table.specs.Unfold.{Tree, treeOf}
 use Rattle.table.specs.Sound.{Sound, AllSound}
 use Rattle.rules.specs.Layout.{Limits, Mode, flat, broken, says, spent}
 use Rattle.rules.specs.Layout as rules
-use Rattle.machine.specs.Waiting.{Entry, node, trial, mark}
+use Rattle.machine.specs.Waiting.{Entry, node, trial, closing}
 use Rattle.machine.specs.Fit.{Verdict, fits, wide, due, Item, item, reread, Walked, walk, say, textFits, look, fit}
 use Rattle.machine.specs.Well.{Nodes}
 use Rattle.machine.proofs.Ends.{visit-goes, visit-stops, waiting}
@@ -26,7 +26,7 @@ pub reread-items : (N : ℕ) (w : List Entry) → Nodes N w → Items N (reread 
 reread-items N [] g = tt
 reread-items N (node n i m ∷ w) g = (g .0, reread-items N w (g .1))
 reread-items N (trial b i m a ∷ w) g = reread-items N w g
-reread-items N (mark n l ∷ w) g = reread-items N w g
+reread-items N (closing n l ∷ w) g = reread-items N w g
 
 abbrev Onto : ℕ → Walked → Type 0
 Onto N (walk is c) = Items N is
@@ -63,7 +63,7 @@ module _ (L : Limits) (at : ℕ → Tree) where
   walks-rest [] = refl
   walks-rest (node n i m ∷ w) = ap (λ k c s. rules.fit L (at n) broken k c s) (walks-rest w)
   walks-rest (trial b i m a ∷ w) = walks-rest w
-  walks-rest (mark n l ∷ w) = walks-rest w
+  walks-rest (closing n l ∷ w) = walks-rest w
 
   -- a verdict in the rules' words
   abbrev pub said : Verdict → rules.Fit

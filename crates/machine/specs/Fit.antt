@@ -6,7 +6,7 @@ use mathlib.Core.List.{List, [], _∷_}
 use lib.Dec.{leb}
 use Rattle.table.specs.Node.{Node, nil, append, group, flatAlt, nest, hardline, text, annotated, union, align, fail, nodeAt}
 use Rattle.rules.specs.Layout.{Mode, flat, broken}
-use Rattle.machine.specs.Waiting.{Entry, node, trial, mark}
+use Rattle.machine.specs.Waiting.{Entry, node, trial, closing}
 
 -- yes or no, with the steps left; or the node due when none is left
 pub data Verdict : Type 0 where
@@ -23,7 +23,7 @@ abbrev pub reread : List Entry → List Item
 reread [] = []
 reread (node n i m ∷ w) = item n broken ∷ reread w
 reread (trial x i m s ∷ w) = reread w
-reread (mark n l ∷ w) = reread w
+reread (closing n l ∷ w) = reread w
 
 -- where one visit leads: on, with what is left to walk and the column; or to a verdict
 pub data Walked : Type 0 where

@@ -5,7 +5,7 @@ use mathlib.Core.Bool.{Bool, false}
 use mathlib.Core.List.{List, [], _∷_}
 use Rattle.table.specs.Node.{nodeAt}
 use Rattle.rules.specs.Layout.{Page, blank, Mode, broken}
-use Rattle.machine.specs.Waiting.{Entry, node, trial, mark}
+use Rattle.machine.specs.Waiting.{Entry, node, trial, closing}
 use Rattle.machine.specs.Fit.{Item, item, walk, look}
 use Rattle.machine.specs.Turn.{Env, on, turn}
 
@@ -13,7 +13,7 @@ use Rattle.machine.specs.Turn.{Env, on, turn}
 module _ (E : Env) (root : ℕ) where
   pub data Reached : Page → ℕ → Bool → List Entry → Type 0 where
     start : Reached blank (E .limits .limit) false (node root 0 broken ∷ [])
-    turned : {p p′ : Page} {left left′ : ℕ} {over over′ : Bool} {e : Entry} {w w′ : List Entry} → Reached p left over (e ∷ w) → turn E p left over e w ≡ on p′ left′ over′ w′ → Reached p′ left′ over′ w′
+    turned : {p p′ : Page} {left left′ : ℕ} {past past′ : Bool} {e : Entry} {w w′ : List Entry} → Reached p left past (e ∷ w) → turn E p left past e w ≡ on p′ left′ past′ w′ → Reached p′ left′ past′ w′
 
 -- A fit test's own stack, from one of the first N nodes that it takes up, the group's child or a waiting node: the node it looks at, and those
 -- that it has still to walk; and the column.
@@ -27,4 +27,4 @@ abbrev pub Indents : ℕ → List Entry → Type 0
 Indents b [] = Unit {0}
 Indents b (node n i m ∷ w) = (i ≤ b) × Indents b w
 Indents b (trial n i m s ∷ w) = (i ≤ b) × Indents b w
-Indents b (mark n l ∷ w) = Indents b w
+Indents b (closing n l ∷ w) = Indents b w

@@ -1,4 +1,4 @@
--- The work area read as what waits: entries from word 0, what trials put back from word 4,096, the fit test's nodes from word 8,192.
+-- The work area read as a list of what waits, the top first; what a push to the fit test and a search promise.
 use mathlib.Core.Path.{_≡_}
 use Prim.Native.Nat.{ℕ, suc, zero, _+_, _-_, _*_, _≤_, _<_}
 use mathlib.Core.Bool.{Bool, true, false}
@@ -7,9 +7,10 @@ use lib.ListN.{getD}
 use lib.Dec.{eqb}
 use Rattle.choice.specs.Pick.{pick}
 use Rattle.rules.specs.Layout.{Mode, flat, broken}
-use Rattle.machine.specs.Waiting.{Saved, Entry, node, trial, mark}
+use Rattle.machine.specs.Waiting.{Saved, Entry, node, trial, closing}
 use Rattle.machine.specs.Fit.{Item, item}
-use Rattle.waiting.specs.declared.Hand.{Hand}
+use Rattle.waiting.specs.Area.{entryWords, savedWords, savedFrom, fitFrom, numberAt, indentAt, modeAt, tagAt, savedWordsAt}
+use Rattle.waiting.specs.declared.Due.{Due}
 use Rattle.waiting.specs.declared.Saved.{Saved as SavedWords}
 
 abbrev pub modeOf : ℕ → Mode
@@ -20,22 +21,27 @@ abbrev pub flagOf : ℕ → Bool
 flagOf zero = false
 flagOf (suc o) = true
 
-abbrev pub savedOf : ℕ → ℕ → ℕ → ℕ → Saved
-savedOf c u k o = record { column = c; bytes = u; events = k; over = flagOf o }
+-- a node that is due, as what is on top
+abbrev pub top : Due → Entry
+top due = node (due .node .0) (due .indent .0) (modeOf (due .mode .0))
+
+-- what a trial saved
+abbrev pub savedOf : SavedWords → Saved
+savedOf v = record { column = v .page .column .0; bytes = v .page .used; events = v .page .events; past = flagOf (v .past) }
 
 -- an entry by its tag
 abbrev pub entryOf : ℕ → ℕ → ℕ → ℕ → Saved → Entry
 entryOf zero n i m s = node n i (modeOf m)
 entryOf (suc zero) n i m s = trial n i (modeOf m) s
-entryOf (suc (suc t)) n i m s = mark n i
+entryOf (suc (suc t)) n i m s = closing n i
 
--- what the entry at height d puts back
+-- what the trial that ends at height d saved
 abbrev pub savedAt : List ℕ → ℕ → Saved
-savedAt w d = savedOf (getD w (4096 + d * 4) 0) (getD w (4096 + d * 4 + 1) 0) (getD w (4096 + d * 4 + 2) 0) (getD w (4096 + d * 4 + 3) 0)
+savedAt w d = savedOf (savedWordsAt w d)
 
 -- the entry at height d
 abbrev pub entryAt : List ℕ → ℕ → Entry
-entryAt w d = entryOf (getD w (d * 4 + 3) 0) (getD w (d * 4) 0) (getD w (d * 4 + 1) 0) (getD w (d * 4 + 2) 0) (savedAt w d)
+entryAt w d = entryOf (tagAt w d) (numberAt w d) (indentAt w d) (modeAt w d) (savedAt w d)
 
 -- the d entries, the top first
 abbrev pub stackOf : ℕ → List ℕ → List Entry
@@ -45,12 +51,12 @@ stackOf (suc d) w = entryAt w d ∷ stackOf d w
 -- the k nodes that the fit test is to walk, the top first
 abbrev pub itemsOf : ℕ → ℕ → List ℕ → List Item
 itemsOf m zero w = []
-itemsOf m (suc k) w = item (getD w (8192 + k) 0) (modeOf m) ∷ itemsOf m k w
+itemsOf m (suc k) w = item (getD w (fitFrom + k) 0) (modeOf m) ∷ itemsOf m k w
 
 -- two areas have the same first d entries
 pub record Same (d : ℕ) (w w′ : List ℕ) : Type 0 where
-  pub entries : (i : ℕ) → i < d * 4 → getD w′ i 0 ≡ getD w i 0
-  pub saved : (i : ℕ) → i < d * 4 → getD w′ (4096 + i) 0 ≡ getD w (4096 + i) 0
+  pub entries : (i : ℕ) → i < d * entryWords → getD w′ i 0 ≡ getD w i 0
+  pub saved : (i : ℕ) → i < d * savedWords → getD w′ (savedFrom + i) 0 ≡ getD w (savedFrom + i) 0
 
 -- one node more to walk, and every entry as it was
 pub record FitPushed (w : List ℕ) (k n : ℕ) (w′ : List ℕ) : Type 0 where
@@ -60,27 +66,15 @@ pub record FitPushed (w : List ℕ) (k n : ℕ) (w′ : List ℕ) : Type 0 where
 abbrev pub tagOf : Entry → ℕ
 tagOf (node n i m) = 0
 tagOf (trial b i m s) = 1
-tagOf (mark n l) = 2
+tagOf (closing n l) = 2
 
 -- what waits from the nearest entry with this tag on
 unfoldable pub from : ℕ → List Entry → List Entry
 from tag [] = []
 from tag (e ∷ w) = pick (eqb (tagOf e) tag) (e ∷ w) (from tag w)
 
+-- r is one more than the height of the nearest entry below d with this tag, or 0
 pub record Nearest (w : List ℕ) (d tag r : ℕ) : Type 0 where
   pub within : r ≤ d
   pub found : from tag (stackOf d w) ≡ stackOf r w
-  pub tagged : 0 < r → getD w ((r - 1) * 4 + 3) 0 ≡ tag
-
--- the node at height d, as the code holds it
-pub record HandAt (w : List ℕ) (d : ℕ) (h : Hand) : Type 0 where
-  pub node : h .node .0 ≡ getD w (d * 4) 0
-  pub indent : h .indent .0 ≡ getD w (d * 4 + 1) 0
-  pub mode : h .mode .0 ≡ getD w (d * 4 + 2) 0
-
--- what the entry at height d puts back, as the code holds it
-pub record SavedAt (w : List ℕ) (d : ℕ) (s : SavedWords) : Type 0 where
-  pub column : s .column .0 ≡ getD w (4096 + d * 4) 0
-  pub used : s .used ≡ getD w (4096 + d * 4 + 1) 0
-  pub marks : s .marks ≡ getD w (4096 + d * 4 + 2) 0
-  pub over : s .over ≡ getD w (4096 + d * 4 + 3) 0
+  pub tagged : 0 < r → tagAt w (r - 1) ≡ tag

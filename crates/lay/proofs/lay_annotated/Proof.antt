@@ -1,32 +1,32 @@
--- `lay::lay_annotated` meets its contract: `annotated-no` where the event doesn't fit, `annotated-yes` where it does.
+-- `lay::lay_annotated` meets its contract: `annotated-full` where the event doesn't fit, `annotated-on` where it does.
 -- Assumes nothing.
-use borrow.Author.Tests.{not-true, not-false}
-use Rattle.lay.proofs.Arms.{annotated-no, annotated-yes}
+use Rattle.lay.proofs.Arms.{annotated-full, annotated-on}
 use borrow.Author.Needs.{needs}
 use Rattle.lay.proofs.lay_annotated.Statement.{statement}
 use Rattle.lay.proofs.lay_annotated.Tie as tie
 
-put-event-requires : tie.Need-put-event-requires
-put-event-requires c κs = search needs
+note-event-requires : tie.Need-note-event-requires
+note-event-requires c κs = search needs
+
+enum-known-page : tie.Need-enum-known-page
+enum-known-page c = search needs
+
+enum-told : tie.Need-enum-told
+enum-told c = search needs
 
 same-length : tie.Need-same-length
 same-length c = search needs
 
 returns : tie.Need-returns
 returns c =
-    let at3 = c .before .before .before in
-    let at8 = at3 .before .before .before .before .before in
-    let s = at8 in
-    annotated-no (s .args .s) _ _ (s .args .work .now) _ _ _ _ _ _ (not-true _ (c .if1 .taken)) (at3 .put-event .ensures)
+    let noted = c .before .before .before .before in
+    annotated-full (noted .before .before .before .before .before .before .args .s) _ _ _ (noted .note-event .ensures) _ _ (c .enum-told .given .1)
 
-push-mark-requires : tie.Need-push-mark-requires
-push-mark-requires c κs = search needs
+push-closing-requires : tie.Need-push-closing-requires
+push-closing-requires c κs = search needs
 
-add-next : tie.Need-add-next
-add-next c = search needs
-
-add-next-2 : tie.Need-add-next-2
-add-next-2 c = search needs
+add-t16 : tie.Need-add-t16
+add-t16 c = search needs
 
 child-of-requires : tie.Need-child-of-requires
 child-of-requires c κs = search needs
@@ -39,40 +39,26 @@ same-length-3 c = search needs
 
 returns-2 : tie.Need-returns-2
 returns-2 c =
-    let at4 = c .before .before .before .before in
-    let at6 = at4 .before .before in
-    let at9 = at6 .before .before .before in
-    let at14 = at9 .before .before .before .before .before in
-    let s = at14 in
-    annotated-yes
-    (s .args .s)
-    _
-    _
-    (s .args .work .now)
-    _
-    _
-    _
-    _
-    _
-    (s .args .hand .mode .0)
-    _
-    _
-    (not-false _ (at6 .if1 .left))
-    (at9 .put-event .ensures)
-    (at9 .put-event .kept .0)
+    let pushed = c .before .before .before .before in
+    let bound = pushed .before .before .before in
+    let noted = bound .before .before .before .before in
+    let start = noted .before .before .before .before .before .before .args in
+    annotated-on (start .s) _ (start .due .node) _ (noted .note-event .ensures) (start .work .now) _ _ _ _ (start .due .mode .0)
+    (bound .page .given .1)
     (c .child-of .ensures)
-    (at4 .push-mark .ensures)
+    (pushed .push-closing .ensures)
 
 pub lay-annotated-spec : {M : Type 1} → statement M
 lay-annotated-spec =
     tie.close
     (tie.spec
-    put-event-requires
+    note-event-requires
+    enum-known-page
+    enum-told
     same-length
     returns
-    push-mark-requires
-    add-next
-    add-next-2
+    push-closing-requires
+    add-t16
     child-of-requires
     same-length-2
     same-length-3

@@ -22,11 +22,9 @@ same-length c = search needs
 
 returns : tie.Need-returns
 returns c =
-    let at3 = c .before .before .before in
-    let at4 = at3 .before in
-    let at7 = at4 .before .before .before in
-    let s = at7 in
-    append-kept (s .args .s) (s .args .work .now) _ _ _ _ _ _ (c .child-of2 .ensures) (rw (at4 .child-of .ensures) at (at3 .push-node .ensures))
+    let pushed = c .before .before .before in
+    let start = pushed .before .before .before .before .args in
+    append-kept (start .s) (start .work .now) _ _ _ _ _ _ (c .child-of2 .ensures) (rw (pushed .before .child-of .ensures) at (pushed .push-node .ensures))
 
 pub lay-append-spec : {M : Type 1} → statement M
 lay-append-spec =

@@ -23,19 +23,17 @@ sub-restored c = search needs
 restored-requires : tie.Need-restored-requires
 restored-requires c κs = search needs
 
-sub-hand-at : tie.Need-sub-hand-at
-sub-hand-at c = search needs
+sub-due-at : tie.Need-sub-due-at
+sub-due-at c = search needs
 
-hand-at-requires : tie.Need-hand-at-requires
-hand-at-requires c κs = search needs
+due-at-requires : tie.Need-due-at-requires
+due-at-requires c κs = search needs
 
 returns-2 : tie.Need-returns-2
 returns-2 c =
-    let at2 = c .before .before in
-    let at3 = at2 .before in
-    let at4 = at3 .before in
-    let start = at4 .before .before in
-    fail-some (start .args .s) _ _ _ _ _ (at4 .nearest .ensures) (at3 .if1 .left) (c .hand-at .ensures) (at2 .saved-at .ensures) (c .before .restored .ensures)
+    let saved = c .before .before in
+    let found = saved .before .before in
+    fail-some (found .before .before .args .s) _ _ (found .nearest .ensures) _ _ _ (saved .before .if1 .left) (c .due-at .ensures) (saved .saved-at .ensures) (c .before .restored .ensures)
 
 pub lay-fail-spec : {M : Type 1} → statement M
 lay-fail-spec =
@@ -47,6 +45,6 @@ lay-fail-spec =
     saved-at-requires
     sub-restored
     restored-requires
-    sub-hand-at
-    hand-at-requires
+    sub-due-at
+    due-at-requires
     returns-2)

@@ -11,9 +11,8 @@ child-of-requires c κs = search needs
 
 returns : tie.Need-returns
 returns c =
-    let at5 = c .before .before .before .before .before in
-    let s = at5 in
-    group-flat _ _ _ _ _ (s .args .hand .mode .0) (s .args .s) _ (c .before .if1 .taken) (c .child-of .ensures)
+    let start = c .before .before .before .before .before .args in
+    group-flat _ _ _ _ _ (start .due .mode .0) (start .s) _ (c .before .if1 .taken) (c .child-of .ensures)
 
 fitting-requires : tie.Need-fitting-requires
 fitting-requires c κs = search needs
@@ -32,78 +31,33 @@ same-length c = search needs
 
 returns-2 : tie.Need-returns-2
 returns-2 c =
-    let at5 = c .before .before .before .before .before in
-    let at9 = at5 .before .before .before .before in
-    let at13 = at9 .before .before .before .before in
-    let s = at13 in
-    let f = at5 .fitting .ensures in
-    group-yes
-    _
-    _
-    _
-    _
-    _
-    _
-    (s .args .hand .mode .0)
-    (s .args .s)
-    _
-    (at9 .if1 .left)
-    (stack-same _ _ _ (same-less _ 1024 _ _ (s .pre .deep) (f .same)))
-    f
-    _
-    (c .before .left .given .1)
+    let fit = c .before .before .before .before .before in
+    let tested = fit .before .before .before .before in
+    let start = tested .before .before .before .before in
+    let f = fit .fitting .ensures in
+    group-yes (start .args .due .indent .0) (start .args .due .mode .0) (start .args .s) (tested .if1 .left) (stack-same _ _ _ (same-less _ 1024 _ _ (start .pre .deep) (f .same))) f _ (c .before .left .given .1)
 
 same-length-2 : tie.Need-same-length-2
 same-length-2 c = search needs
 
 returns-3 : tie.Need-returns-3
 returns-3 c =
-    let at5 = c .before .before .before .before .before in
-    let at9 = at5 .before .before .before .before in
-    let at13 = at9 .before .before .before .before in
-    let s = at13 in
-    let f = at5 .fitting .ensures in
-    group-no
-    _
-    _
-    _
-    _
-    _
-    _
-    (s .args .hand .mode .0)
-    (s .args .s)
-    _
-    (at9 .if1 .left)
-    (stack-same _ _ _ (same-less _ 1024 _ _ (s .pre .deep) (f .same)))
-    f
-    _
-    (c .before .left2 .given .1)
+    let fit = c .before .before .before .before .before in
+    let tested = fit .before .before .before .before in
+    let start = tested .before .before .before .before in
+    let f = fit .fitting .ensures in
+    group-no (start .args .due .indent .0) (start .args .due .mode .0) (start .args .s) (tested .if1 .left) (stack-same _ _ _ (same-less _ 1024 _ _ (start .pre .deep) (f .same))) f _ (c .before .left2 .given .1)
 
 same-length-3 : tie.Need-same-length-3
 same-length-3 c = search needs
 
 returns-4 : tie.Need-returns-4
 returns-4 c =
-    let at5 = c .before .before .before .before .before in
-    let at9 = at5 .before .before .before .before in
-    let at13 = at9 .before .before .before .before in
-    let s = at13 in
-    let f = at5 .fitting .ensures in
-    group-due
-    _
-    _
-    _
-    _
-    _
-    _
-    (s .args .hand .mode .0)
-    (s .args .s)
-    _
-    (at9 .if1 .left)
-    (stack-same _ _ _ (same-less _ 1024 _ _ (s .pre .deep) (f .same)))
-    f
-    _
-    (c .before .node .given .1)
+    let fit = c .before .before .before .before .before in
+    let tested = fit .before .before .before .before in
+    let start = tested .before .before .before .before in
+    let f = fit .fitting .ensures in
+    group-due (start .args .due .indent .0) (start .args .due .mode .0) (start .args .s) (tested .if1 .left) (stack-same _ _ _ (same-less _ 1024 _ _ (start .pre .deep) (f .same))) f _ (c .before .node .given .1)
 
 pub lay-group-spec : {M : Type 1} → statement M
 lay-group-spec =

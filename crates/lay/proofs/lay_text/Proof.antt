@@ -1,46 +1,59 @@
--- `lay::lay_text` meets its contract: `put-no` where the bytes don't fit, `put-yes` where they do; `over-set` and `over-kept` say the flag.
+-- `lay::lay_text` meets its contract: `put-full` where the Text doesn't fit, `put-on` where it does; `past-set` and `past-kept` say the flag.
 -- Assumes nothing.
-use mathlib.Core.Logic.{⊎-elim}
-use lib.ListN.{length-take, length-drop}
-use lib.Dec.{ltb}
-use mathlib.Core.Bool.{_||_}
-use Rattle.waiting.specs.Stack.{flagOf}
-use Rattle.lay.proofs.Arms.{put-no, put-yes, over-set, over-kept}
+use Rattle.lay.proofs.Arms.{put-full, put-on, column-on, past-set, past-kept}
 use borrow.Author.Needs.{needs}
-use native.Mathlib.Omega.{arith}
-use mathlib.Core.Path.{_≡_, refl}
-use Prim.Native.Nat.{_+_}
 use Rattle.lay.proofs.lay_text.Statement.{statement}
 use Rattle.lay.proofs.lay_text.Tie as tie
 
-sub-if1 : tie.Need-sub-if1
-sub-if1 c = search needs
+write-text-requires : tie.Need-write-text-requires
+write-text-requires c κs = search needs
 
-returns : tie.Need-returns
-returns c =
-    let at3 = c .before .before .before in
-    let s = at3 in
-    put-no (s .args .s) _ _ (s .args .len) (λ p. p .column + s .args .columns) (simp (length-take, length-drop) (omega arith)) (omega arith) _ (omega arith)
+enum-known-page : tie.Need-enum-known-page
+enum-known-page c = search needs
 
-copy-over-requires : tie.Need-copy-over-requires
-copy-over-requires c κs = search needs
-
-add-end : tie.Need-add-end
-add-end c = search needs
-
-add-t13 : tie.Need-add-t13
-add-t13 c = search needs
+enum-told : tie.Need-enum-told
+enum-told c = search needs
 
 same-length : tie.Need-same-length
 same-length c = search needs
 
+returns : tie.Need-returns
+returns c =
+    let bound = c .before .before .before in
+    let written = bound .before .before .before .before in
+    let start = written .before .before .before .before .before .args in
+    let column = column-on (start .s) (written .write-text .ensures) _ (bound .page .given .1) in
+    put-on (start .s) (written .write-text .ensures) _ _ 1 (bound .page .given .1) (past-set (start .s .past) _ _ (rw column at (c .if1 .taken)))
+
+same-length-2 : tie.Need-same-length-2
+same-length-2 c = search needs
+
 returns-2 : tie.Need-returns-2
-returns-2 c = let s = c .before .before .before .before .before .before .before .before .before in
-    let eo : flagOf (c .if2 .over) ≡ flagOf (s .args .s .over) || ltb (s .args .width) (s .args .s .column .0 + s .args .columns) =
-    ⊎-elim (λ v. rw (v .1) (over-set (s .args .s .over) _ _ (v .0 .taken))) (λ v. rw (v .1) (over-kept (s .args .s .over) _ _ (v .0 .left))) (c .if2 .came) in
-    put-yes (s .args .s) _ _ (s .args .len) (λ p. p .column + s .args .columns) (simp (length-take, length-drop) (omega arith)) (omega arith) _ _ _ _ _ (omega arith) (c .before .before .before .before .copy-over .ensures .0) (c .before .before .before .before .copy-over .ensures .1) (λ ev. refl) refl eo
+returns-2 c =
+    let bound = c .before .before .before in
+    let written = bound .before .before .before .before in
+    let start = written .before .before .before .before .before .args in
+    let column = column-on (start .s) (written .write-text .ensures) _ (bound .page .given .1) in
+    put-on (start .s) (written .write-text .ensures) _ _ (start .s .past) (bound .page .given .1) (past-kept (start .s .past) _ _ (rw column at (c .if1 .left)))
+
+same-length-3 : tie.Need-same-length-3
+same-length-3 c = search needs
+
+returns-3 : tie.Need-returns-3
+returns-3 c =
+    let written = c .before .before .before .before in
+    put-full (written .before .before .before .before .before .args .s) (written .write-text .ensures) _ (c .enum-told .given .1)
 
 pub lay-text-spec : {M : Type 1} → statement M
 lay-text-spec =
     tie.close
-    (tie.spec sub-if1 returns copy-over-requires add-end add-t13 same-length returns-2)
+    (tie.spec
+    write-text-requires
+    enum-known-page
+    enum-told
+    same-length
+    returns
+    same-length-2
+    returns-2
+    same-length-3
+    returns-3)

@@ -1,18 +1,14 @@
--- `lay::restored` meets its contract: it is what was saved, field by field.
+-- `lay::restored` meets its contract: the page put back is the one that was saved, and the rest is what was saved.
 -- Assumes nothing.
 use borrow.Author.Needs.{needs}
-use mathlib.Core.Path.{refl}
 use Rattle.lay.proofs.restored.Statement.{statement}
 use Rattle.lay.proofs.restored.Tie as tie
 
-cast-t5 : tie.Need-cast-t5
-cast-t5 c = search needs
-
-cast-t6 : tie.Need-cast-t6
-cast-t6 c = search needs
+put-back-requires : tie.Need-put-back-requires
+put-back-requires c κs = search needs
 
 returns : tie.Need-returns
-returns c = refl
+returns c = rw (c .put-back .ensures .same)
 
 pub restored-spec : {M : Type 1} → statement M
-restored-spec = tie.close (tie.spec cast-t5 cast-t6 returns)
+restored-spec = tie.close (tie.spec put-back-requires returns)

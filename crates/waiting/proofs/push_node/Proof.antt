@@ -5,11 +5,11 @@ use borrow.Author.Needs.{needs}
 use Rattle.waiting.proofs.push_node.Statement.{statement}
 use Rattle.waiting.proofs.push_node.Tie as tie
 
-mul-put-entry : tie.Need-mul-put-entry
-mul-put-entry c = search needs
+mul-put-words : tie.Need-mul-put-words
+mul-put-words c = search needs
 
-put-entry-requires : tie.Need-put-entry-requires
-put-entry-requires c κs = search needs
+put-words-requires : tie.Need-put-words-requires
+put-words-requires c κs = search needs
 
 same-length : tie.Need-same-length
 same-length c = search needs
@@ -19,7 +19,7 @@ returns c =
     let at2 = c .before .before in
     let at5 = at2 .before .before .before in
     let s = at5 in
-    pushed (s .args .work .now) (s .args .depth) (s .pre .0) (s .pre .1) _ _ _ 0 _ (at2 .put-entry .ensures)
+    pushed (s .args .work .now) (s .args .depth) (s .pre .0) (s .pre .1) _ _ _ 0 _ (at2 .put-words .ensures)
 
 pub push-node-spec : {M : Type 1} → statement M
-push-node-spec = tie.close (tie.spec mul-put-entry put-entry-requires same-length returns)
+push-node-spec = tie.close (tie.spec mul-put-words put-words-requires same-length returns)

@@ -1,11 +1,11 @@
--- `waiting::put_entry` meets its contract: four stores are one run of four words.
+-- `waiting::put_words` meets its contract: four stores are one run of four words.
 -- Assumes nothing.
 use Rattle.waiting.proofs.Laws.{stores4}
 use borrow.Author.Needs.{needs}
 use native.Mathlib.Omega.{arith}
 use lib.ListN.{length-set}
-use Rattle.waiting.proofs.put_entry.Statement.{statement}
-use Rattle.waiting.proofs.put_entry.Tie as tie
+use Rattle.waiting.proofs.put_words.Statement.{statement}
+use Rattle.waiting.proofs.put_words.Tie as tie
 
 mul-work : tie.Need-mul-work
 mul-work c = search needs
@@ -46,8 +46,8 @@ same-length c = simp length-set
 returns : tie.Need-returns
 returns c = stores4 (c .args .work .now) (c .args .at) (c .args .first) (c .args .second) (c .args .third) (c .args .fourth)
 
-pub put-entry-spec : {M : Type 1} → statement M
-put-entry-spec =
+pub put-words-spec : {M : Type 1} → statement M
+put-words-spec =
     tie.close
     (tie.spec
     mul-work

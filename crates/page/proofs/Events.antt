@@ -9,7 +9,7 @@ use mathlib.Core.List.{List, [], _∷_, _++_}
 use lib.ListN.{getD, length, set, take, length-append, length-set}
 use lib.Seq.{getD-set-same, getD-set-other, take-append-le, take-length}
 use Rattle.rules.specs.Call.{eventWords}
-use Rattle.lay.specs.State.{eventAt, eventsOf}
+use Rattle.page.specs.Reading.{eventAt, eventsOf}
 
 pub length-events : (n : ℕ) (ev : List ℕ) → length (eventsOf n ev) ≡ n
 unfolding eventsOf
@@ -69,8 +69,11 @@ module _ (ev : List ℕ) (n a b c : ℕ) (room : n * eventWords + 3 ≤ length e
       ∙ getD-set-other one (n * eventWords + 1) (n * eventWords) b 0 (λ (e : n * eventWords ≡ n * eventWords + 1). omega arith)
       ∙ getD-set-same ev (n * eventWords) a 0 (omega arith)
 
+  pub events-kept : eventsOf n (stored ev (n * eventWords) a b c) ≡ eventsOf n ev
+  events-kept = events-same n ev (stored ev (n * eventWords) a b c) other
+
   pub events-more : eventsOf (n + 1) (stored ev (n * eventWords) a b c) ≡ eventsOf n ev ++ (record { offset = a; mark = b; label = c } ∷ [])
   unfolding eventsOf
   events-more =
-      let r : eventsOf n (stored ev (n * eventWords) a b c) ≡ eventsOf n ev = events-same n ev (stored ev (n * eventWords) a b c) other in
+      let r : eventsOf n (stored ev (n * eventWords) a b c) ≡ eventsOf n ev = events-kept in
       rw (add-one, r, first, second, third)

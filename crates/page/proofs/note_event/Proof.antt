@@ -1,16 +1,11 @@
--- `lay::put_event` meets its contract: three stores are one record more, by `events-more`.
+-- `page::note_event` meets its contract: `noted-full` where no record is left, else three stores are one record more, by `noted-on`.
 -- Assumes nothing.
-use Rattle.rules.specs.Call.{eventWords}
-use Rattle.lay.proofs.Events.{events-more}
-use borrow.Author.Tests.{le-ltb, lt-ltb}
-use mathlib.Core.Bool.{false≢true}
-use borrow.Author.Needs.{needs}
 use native.Mathlib.Omega.{arith}
-use mathlib.Core.Path.{sym}
-use Prim.Native.Nat.{_/_}
-use lib.ListN.{length, length-set}
-use Rattle.lay.proofs.put_event.Statement.{statement}
-use Rattle.lay.proofs.put_event.Tie as tie
+use lib.ListN.{length-set}
+use Rattle.page.proofs.Pages.{noted-full, noted-on}
+use borrow.Author.Needs.{needs}
+use Rattle.page.proofs.note_event.Statement.{statement}
+use Rattle.page.proofs.note_event.Tie as tie
 
 mul-at : tie.Need-mul-at
 mul-at c = search needs
@@ -19,8 +14,7 @@ sub-if1 : tie.Need-sub-if1
 sub-if1 c = search needs
 
 returns : tie.Need-returns
-returns c =
-    record { fits = sym (le-ltb (c .before .args .marks) (length (c .before .args .events .now) / eventWords) (omega arith)); room = λ e. absurd (false≢true e); noted = λ e. absurd (false≢true e) }
+returns c = noted-full (c .before .before .args .page) _ _ _ (omega arith)
 
 cast-events : tie.Need-cast-events
 cast-events c = search needs
@@ -49,17 +43,17 @@ mul-events-3 c = search needs
 slice-write-events-3 : tie.Need-slice-write-events-3
 slice-write-events-3 c = simp length-set (omega arith)
 
+add-next : tie.Need-add-next
+add-next c = search needs
+
 same-length : tie.Need-same-length
 same-length c = simp length-set
 
 returns-2 : tie.Need-returns-2
-returns-2 c =
-    let marks-2 = c .before .args .marks in
-    let events-2 = c .before .args .events .now in
-    record { fits = sym (lt-ltb marks-2 (length events-2 / eventWords) (omega arith)); room = λ e. omega arith; noted = λ e. events-more events-2 marks-2 (c .before .args .offset) (c .before .args .mark) (c .before .args .label) (omega arith) }
+returns-2 c = noted-on (c .before .before .before .before .args .page) _ _ _ (omega arith)
 
-pub put-event-spec : {M : Type 1} → statement M
-put-event-spec =
+pub note-event-spec : {M : Type 1} → statement M
+note-event-spec =
     tie.close
     (tie.spec
     mul-at
@@ -74,5 +68,6 @@ put-event-spec =
     add-events-2
     mul-events-3
     slice-write-events-3
+    add-next
     same-length
     returns-2)
