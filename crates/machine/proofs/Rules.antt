@@ -15,7 +15,7 @@ use Rattle.table.proofs.Unfolded.{tree-node}
 use Rattle.rules.specs.Layout.{Limits, Page, blank, Mode, flat, broken, Due, brokenGroup, other, Outcome, done, failed, refused, steps, bytes, events, Report, report, also, andThen, try, chosen, next, nested, taken, fed, wrote, marked}
 use Rattle.rules.specs.Layout as rules
 use Rattle.rules.specs.Why.{dueIn}
-use Rattle.machine.specs.Waiting.{Saved, save, Entry, node, trial, closing, back, nextIndent}
+use Rattle.machine.specs.Waiting.{Saved, save, Entry, node, trial, closing, back}
 use Rattle.machine.specs.Fit.{Verdict, fits, wide, due, item, reread, fit}
 use Rattle.machine.specs.Turn.{Env, Turned, on, stop, put, event, decided, giveUp, visit, endTrial, dueNode, turn, ended, run, layout}
 use Rattle.machine.specs.Well.{Stacked, weight, Well}
