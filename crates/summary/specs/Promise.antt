@@ -17,7 +17,9 @@ use Rattle.summary.specs.Summary.{summary, wordOf}
 use Rattle.summary.specs.declared.Step.{Step}
 use Rattle.summary.specs.declared.Step.the-variants.{Down, Ends}
 use Rattle.summary.specs.declared.Met.{Met}
-use Rattle.summary.specs.declared.Met.the-variants.{Through, AtFail, HardlineInside, HardlineAfter, TextPast}
+use Rattle.summary.specs.declared.Met.the-variants.{Through, Found}
+use Rattle.summary.specs.declared.Reason.{Reason}
+use Rattle.summary.specs.declared.Reason.the-variants.{AtFail, HardlineInside, TextPast, NothingLeft, HardlineAfter}
 
 -- the words of node n
 pub record Reads (table : List ℕ) (n : ℕ) (w : Words) : Type 0 where
@@ -62,12 +64,16 @@ pub record Summarized (table memo : List ℕ) (N : ℕ) (memo′ : List ℕ) : T
   pub rest : (i : ℕ) → N * 2 ≤ i → getD memo′ i 0 ≡ getD memo i 0
 
 -- the code's answer as the definition's
+abbrev pub reasonOf : Reason → why.Reason
+reasonOf (AtFail n c) = why.atFail (n .0) (c .0)
+reasonOf (HardlineInside n c) = why.hardlineInside (n .0) (c .0)
+reasonOf (TextPast n c) = why.textPast (n .0) (c .0)
+reasonOf NothingLeft = why.nothingLeft
+reasonOf (HardlineAfter n) = why.hardlineAfter (n .0)
+
 abbrev pub metOf : Met → why.Met
 metOf (Through c) = why.through (c .0)
-metOf (AtFail n c) = why.found (why.atFail (n .0) (c .0))
-metOf (HardlineInside n c) = why.found (why.hardlineInside (n .0) (c .0))
-metOf (HardlineAfter n) = why.found (why.hardlineAfter (n .0))
-metOf (TextPast n c) = why.found (why.textPast (n .0) (c .0))
+metOf (Found r) = why.found (reasonOf r)
 
 -- one of N nodes with their summaries, a column and a width
 pub record Asked (table memo : List ℕ) (n c W N : ℕ) : Type 0 where

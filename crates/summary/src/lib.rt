@@ -15,14 +15,20 @@ ghost use Rattle.summary.specs.Promise.{placeOf, joinWords, Room, Says, 
 // A Fail or a Hardline stops the walk, or its Texts have more columns than any width.
 const NEVER: u32 = 65538;
 
-// Where the walk down a node leads: through it, to a column; or to the first node that breaks or ends the fit test, with the column reached
-// there, for a Text at its end.
-pub enum Met {
-    Through(Column),
+// Why a group goes broken or flat: the first node that breaks its fit test, with the column reached there, for a Text at its end; or what ends it
+// flat.
+pub enum Reason {
     AtFail(NodeNo, Column),
     HardlineInside(NodeNo, Column),
-    HardlineAfter(NodeNo),
     TextPast(NodeNo, Column),
+    NothingLeft,
+    HardlineAfter(NodeNo),
+}
+
+// Where the walk down a node leads: through it, to a column; or to a reason.
+pub enum Met {
+    Through(Column),
+    Found(Reason),
 }
 
 // One step of the way down: to a node below, from a column; or to where the walk leads.
@@ -149,20 +155,20 @@ fn step_down(
             Step::Down(NodeNo(w.a), column)
         },
         5 => if flat {
-            Step::Ends(Met::HardlineInside(node, column))
+            Step::Ends(Met::Found(Reason::HardlineInside(node, column)))
         } else {
-            Step::Ends(Met::HardlineAfter(node))
+            Step::Ends(Met::Found(Reason::HardlineAfter(node)))
         },
         6 => {
             let end = column.0 + w.c;
             if end <= width {
                 Step::Ends(Met::Through(Column(end)))
             } else {
-                Step::Ends(Met::TextPast(node, Column(end)))
+                Step::Ends(Met::Found(Reason::TextPast(node, Column(end))))
             }
         }
         8 => Step::Down(NodeNo(w.b), column),
-        _ => Step::Ends(Met::AtFail(node, column)),
+        _ => Step::Ends(Met::Found(Reason::AtFail(node, column))),
     }
 }
 
