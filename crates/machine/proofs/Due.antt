@@ -18,12 +18,12 @@ use Rattle.choice.specs.Pick.{pick}
 use Rattle.rules.specs.Layout.{Page, blank, Mode, broken, Outcome, report, lay}
 use Rattle.rules.specs.Layout as rules
 use Rattle.rules.specs.Why.{told, reason, whyDue, endedBefore, dueIn, atVisit}
-use Rattle.machine.specs.Waiting.{Entry, node}
+use Rattle.machine.specs.Waiting.{Entry, node, waiting}
 use Rattle.machine.specs.Turn.{Env, on, stop, turn, ended}
 use Rattle.machine.specs.Well.{weight, Well}
 use Rattle.machine.specs.Reached.{Reached, start, turned}
 use Rattle.machine.proofs.Kept.{Next, turn-next}
-use Rattle.machine.proofs.Ends.{waiting, finish, whole, whole-node, also-false}
+use Rattle.machine.proofs.Ends.{finish, whole, whole-node, also-false}
 use Rattle.machine.proofs.Rules.{seen, Onward, dueAt, dueTurn, turn-is}
 
 -- a run that ended with 7 where a Group met broken was due
@@ -89,14 +89,14 @@ module _ (E : Env) (N : ℕ) (some : 0 < N) (few : N ≤ 1024) (valid : AllSound
   -- a node that is due with no step left
   pub due-node : {p : Page} {past : Bool} {w : List Entry} (n i : ℕ) (m : Mode)
       → Reached E (N - 1) p zero past (node n i m ∷ w)
-      → seen outcome ≡ record { told = ended E 7 n 0; due = dueAt E at (nodeAt (E .table) n) m (waiting (E .limits) at w) (p .column) }
+      → seen outcome ≡ record { told = ended E 7 n 0; due = dueAt E at (nodeAt (E .table) n) m (waiting at w) (p .column) }
   unfolding turn
   due-node n i m r = stop-is 7 n 0 r refl
 
   pub group-due : {p : Page} {past : Bool} {w : List Entry} (n i a : ℕ)
       → Reached E (N - 1) p zero past (node n i broken ∷ w) → nodeAt (E .table) n ≡ group a
-      → (W : ℕ) → atVisit W outcome ≡ told (reason W (at a) (waiting (E .limits) at w) (p .column))
+      → (W : ℕ) → atVisit W outcome ≡ told (reason W (at a) (waiting at w) (p .column))
   group-due {p} {past} {w} n i a r e W =
       let s = due-node n i broken r in
-      visit-told W outcome (at a) (waiting (E .limits) at w) (p .column) (ap (λ z. z .told .answer) s)
-      (ap (λ z. z .due) s ∙ ap (λ x. dueAt E at x broken (waiting (E .limits) at w) (p .column)) e)
+      visit-told W outcome (at a) (waiting at w) (p .column) (ap (λ z. z .told .answer) s)
+      (ap (λ z. z .due) s ∙ ap (λ x. dueAt E at x broken (waiting at w) (p .column)) e)

@@ -15,12 +15,12 @@ use Rattle.table.proofs.Unfolded.{tree-node}
 use Rattle.rules.specs.Layout.{Limits, Page, blank, Mode, flat, broken, Due, brokenGroup, other, Outcome, done, failed, refused, steps, bytes, events, Report, report, also, andThen, try, chosen, next, nested, taken, fed, wrote, marked}
 use Rattle.rules.specs.Layout as rules
 use Rattle.rules.specs.Why.{dueIn}
-use Rattle.machine.specs.Waiting.{Saved, save, Entry, node, trial, closing, back}
+use Rattle.machine.specs.Waiting.{Saved, save, Entry, node, trial, closing, back, waiting}
 use Rattle.machine.specs.Fit.{Verdict, fits, wide, due, item, reread, fit}
 use Rattle.machine.specs.Turn.{Env, Turned, on, stop, put, event, decided, giveUp, visit, endTrial, dueNode, turn, ended, run, layout}
 use Rattle.machine.specs.Well.{Stacked, weight, Well}
 use Rattle.machine.proofs.Kept.{Next, turn-next, nodes-of}
-use Rattle.machine.proofs.Ends.{visit-goes, visit-stops, or-false, also-false, Agree, back-now, back-agrees, longer-agrees, more-agrees, waiting, next-is, finish, finish-refused, finish-same, whole, whole-node, whole-done}
+use Rattle.machine.proofs.Ends.{visit-goes, visit-stops, or-false, also-false, Agree, back-now, back-agrees, longer-agrees, more-agrees, next-is, finish, finish-refused, finish-same, whole, whole-node, whole-done}
 use Rattle.machine.proofs.Tested.{said, walks, walks-rest, reread-items, fit-is}
 
 -- what is told of a run's end, and what was due
@@ -41,7 +41,7 @@ module _ (E : Env) (at : ℕ → Tree) where
 
   -- node n, where w waits
   abbrev lays : ℕ → ℕ → Mode → List Entry → Page → ℕ → Outcome
-  lays n i m w p s = rules.lay L (at n) i m (waiting L at w) p s
+  lays n i m w p s = rules.lay L (at n) i m (waiting at w) p s
 
   -- how the run ends where what was on top ended as x
   abbrev after : Page → List Entry → Bool → Outcome → Outcome
@@ -146,7 +146,7 @@ module _ (E : Env) (at : ℕ → Tree) where
 
   -- what is due where a turn stops with 7
   abbrev pub dueTurn : Page → ℕ → Entry → List Entry → Due
-  dueTurn p left (node n i m) w = dueNow left (dueAt (nodeAt (E .table) n) m (waiting L at w) (p .column))
+  dueTurn p left (node n i m) w = dueNow left (dueAt (nodeAt (E .table) n) m (waiting at w) (p .column))
   dueTurn p left (trial b i m a) w = other
   dueTurn p left (closing n l) w = other
 
@@ -171,7 +171,7 @@ module _ (E : Env) (at : ℕ → Tree) where
   module _ (N : ℕ) (valid : AllSound (E .table) (length (E .str)) N) (unfolds : (n : ℕ) → n < N → at n ≡ treeOf (E .str) at n (nodeAt (E .table) n)) where
     group-is : (n a i : ℕ) (p : Page) (left : ℕ) (past : Bool) (w : List Entry)
         → left < L .limit → a < n → Well L N p (node n i broken ∷ w)
-        → Onward other (after p w past (chosen (rules.fit L (at a) flat (rules.rest L (waiting L at w)) (p .column) (made left)) (λ m s. lays a i m w p s)))
+        → Onward other (after p w past (chosen (rules.fit L (at a) flat (rules.rest L (waiting at w)) (p .column) (made left)) (λ m s. lays a i m w p s)))
         (visit E n (group a) i broken p left past w)
     unfolding walks
     group-is n a i p left past w h g q =
@@ -187,7 +187,7 @@ module _ (E : Env) (at : ℕ → Tree) where
     -- a node that is due with a step left
     visit-is : (nd : Node) (n i : ℕ) (m : Mode) (p : Page) (left : ℕ) (past : Bool) (w : List Entry)
         → left < L .limit → Sound (length (E .str)) n nd → Well L N p (node n i m ∷ w)
-        → Onward other (after p w past (rules.lay L (treeOf (E .str) at n nd) i m (waiting L at w) p (made (suc left)))) (visit E n nd i m p left past w)
+        → Onward other (after p w past (rules.lay L (treeOf (E .str) at n nd) i m (waiting at w) p (made (suc left)))) (visit E n nd i m p left past w)
     unfolding rules.lay finish whole waiting
     visit-is nil n i m p left past w h g q = ap (after p w past) (visit-goes L _ _ left h)
     visit-is (append a b) n i m p left past w h g q = ap (after p w past) (visit-goes L _ _ left h) ∙ one-is a i m p left past (node b i m ∷ w)
@@ -198,8 +198,8 @@ module _ (E : Env) (at : ℕ → Tree) where
     visit-is (nest a k way) n i m p left past w h g q = ap (after p w past) (visit-goes L _ _ left h) ∙ one-is a (nested way k i) m p left past w
     visit-is hardline n i m p left past w h g q =
         subst (Onward other _) (ap₂ (λ j o. put L (fed j p) left o w) (next-is L at i w) (or-false past))
-        (as-well other (put L (fed (next (waiting L at w) i) p) left (past || false) w) (ap (after p w past) (visit-goes L _ _ left h))
-        (put-is N _ p (fed (next (waiting L at w) i) p) left past false w (q .stack .1) (longer-agrees p _ _)))
+        (as-well other (put L (fed (next (waiting at w) i) p) left (past || false) w) (ap (after p w past) (visit-goes L _ _ left h))
+        (put-is N _ p (fed (next (waiting at w) i) p) left past false w (q .stack .1) (longer-agrees p _ _)))
     visit-is (text o l cols) n i m p left past w h g q =
         as-well other (visit E n (text o l cols) i m p left past w) (ap (after p w past) (visit-goes L _ _ left h))
         (put-is N _ p (wrote (take l (drop o (E .str))) cols p) left past _ w (q .stack .1) (longer-agrees p _ _))
@@ -216,8 +216,8 @@ module _ (E : Env) (at : ℕ → Tree) where
 
     dueNode-is : (n i : ℕ) (m : Mode) (p : Page) (left : ℕ) (past : Bool) (w : List Entry)
         → left ≤ L .limit → Well L N p (node n i m ∷ w)
-        → Onward (dueNow left (dueAt (nodeAt (E .table) n) m (waiting L at w) (p .column)))
-        (after p w past (rules.lay L (treeOf (E .str) at n (nodeAt (E .table) n)) i m (waiting L at w) p (made left)))
+        → Onward (dueNow left (dueAt (nodeAt (E .table) n) m (waiting at w) (p .column)))
+        (after p w past (rules.lay L (treeOf (E .str) at n (nodeAt (E .table) n)) i m (waiting at w) p (made left)))
         (dueNode E n i m p left past w)
     dueNode-is n i m p zero past w h q =
         ap (λ x. seen (after p w past x)) (due-is (nodeAt (E .table) n) n i m p _) ∙ ap seen (finish-refused L at p w past _ n _)
@@ -228,9 +228,9 @@ module _ (E : Env) (at : ℕ → Tree) where
         → left ≤ L .limit → Well L N p (e ∷ w) → Onward (dueTurn p left e w) (whole L at p (e ∷ w) past (made left)) (turn E p left past e w)
     unfolding turn
     turn-is p left past (node n i m) w h q =
-        as-well (dueNow left (dueAt (nodeAt (E .table) n) m (waiting L at w) (p .column))) (dueNode E n i m p left past w)
+        as-well (dueNow left (dueAt (nodeAt (E .table) n) m (waiting at w) (p .column))) (dueNode E n i m p left past w)
         (whole-node L at p n i m w past _
-        ∙ ap (λ t. after p w past (rules.lay L t i m (waiting L at w) p (made left))) (unfolds n (omega (arith, q .stack .0 .number))))
+        ∙ ap (λ t. after p w past (rules.lay L t i m (waiting at w) p (made left))) (unfolds n (omega (arith, q .stack .0 .number))))
         (dueNode-is n i m p left past w h q)
     turn-is p left past (trial b i m a) w h q = endTrial-is N past b i m a p left w q
     turn-is p left past (closing n l) w h q = closing-is N n l p left past w q

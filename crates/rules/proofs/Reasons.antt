@@ -12,8 +12,8 @@ use mathlib.Core.Bool.{Bool, true, false}
 use mathlib.Core.List.{List, [], _∷_}
 use lib.Dec.{eqb, leb}
 use Rattle.table.specs.Unfold.{Tree, nil, append, group, flatAlt, nest, hardline, text, annotated, union, align, fail}
-use Rattle.rules.specs.Layout.{Limits, Page, Mode, flat, broken, Entry, Fit, says, spent, refused, brokenGroup, steps, chosen, visit, look, fit, rest, lay}
-use Rattle.rules.specs.Why.{Reason, goesFlat, modeIf, Met, through, found, thenMeets, orElse, firstIn, firstAfter, reason}
+use Rattle.rules.specs.Layout.{Limits, Page, Mode, flat, broken, modeIf, Entry, Fit, says, spent, refused, brokenGroup, steps, chosen, visit, look, fit, rest, lay}
+use Rattle.rules.specs.Why.{Reason, goesFlat, Met, through, found, thenMeets, orElse, firstIn, firstAfter, reason}
 
 -- a fit test that is not spent goes on as k where the walk came through, else says yes or no by the reason
 pub data Tests (k : ℕ → ℕ → Fit) : Met → Fit → Type 0 where

@@ -34,6 +34,11 @@ blank = record { column = 0; out = []; events = [] }
 pub data Mode : Type 0 where
   flat broken : Mode
 
+-- flat, or broken
+abbrev pub modeIf : Bool → Mode
+modeIf true = flat
+modeIf false = broken
+
 -- a waiting node with its indentation
 pub record Entry : Type 0 where
   pub what : Tree

@@ -53,11 +53,6 @@ reasonColumn (textPast n c) = c
 reasonColumn nothingLeft = 0
 reasonColumn (hardlineAfter n) = 0
 
--- flat, or broken
-abbrev pub modeIf : Bool → Mode
-modeIf true = flat
-modeIf false = broken
-
 -- ---- the first such node
 
 -- where the walk down a node leads: through it, to a column; or to a reason

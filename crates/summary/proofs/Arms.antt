@@ -15,7 +15,7 @@ use Rattle.table.specs.declared.Words.{Words}
 use Rattle.table.specs.Unfold.{treeOf, tree}
 use Rattle.table.specs.Sound.{Sound}
 use Rattle.table.proofs.Unfolded.{tree-node}
-use Rattle.rules.specs.Why.{modeIf}
+use Rattle.rules.specs.Layout.{modeIf}
 use Rattle.summary.specs.Summary.{summary, wordOf}
 use Rattle.summary.specs.Promise.{placeOf, joinWords, Reads, Says, Below}
 use Rattle.summary.proofs.Laws.{summary-bound, join-words}

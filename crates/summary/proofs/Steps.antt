@@ -11,7 +11,8 @@ use borrow.Author.Tests.{le-leb, lt-leb}
 use Rattle.table.specs.Node.{Node, nodeAt}
 use Rattle.table.specs.Unfold.{treeOf, tree}
 use Rattle.table.specs.Sound.{Sound}
-use Rattle.rules.specs.Why.{Met, through, found, atFail, hardlineInside, hardlineAfter, textPast, thenMeets, modeIf, firstIn}
+use Rattle.rules.specs.Layout.{modeIf}
+use Rattle.rules.specs.Why.{Met, through, found, atFail, hardlineInside, hardlineAfter, textPast, thenMeets, firstIn}
 use Rattle.summary.specs.Summary.{summary, wordOf}
 use Rattle.summary.specs.Promise.{placeOf, Reads, Asked, Leads, Goes, Stepped, metOf}
 use Rattle.summary.specs.declared.Step.{Step}

@@ -12,7 +12,8 @@ use Rattle.table.specs.Node.{nodeOf, nodeAt}
 use Rattle.table.specs.declared.Words.{Words}
 use Rattle.table.specs.Sound.{Sound, AllSound}
 use Rattle.rules.specs.Why as why
-use Rattle.rules.specs.Why.{modeIf, firstIn}
+use Rattle.rules.specs.Layout.{modeIf}
+use Rattle.rules.specs.Why.{firstIn}
 use Rattle.summary.specs.Summary.{summary, wordOf}
 use Rattle.summary.specs.declared.Step.{Step}
 use Rattle.summary.specs.declared.Step.the-variants.{Down, Ends}
