@@ -19,8 +19,8 @@ use Rattle.table.proofs.Sound.{all-sound-of-check}
 use Rattle.rules.specs.Layout as rules
 use Rattle.rules.specs.Call.{Given, buffersRight, limits, refusal, call, wordsOf, eventWords}
 use Rattle.machine.proofs.Rules.{layout-is}
-use Rattle.lay.specs.State.{eventsOf}
-use Rattle.lay.proofs.Events.{length-events}
+use Rattle.page.specs.Reading.{eventsOf}
+use Rattle.page.proofs.Events.{length-events}
 use Rattle.render.specs.Visit.{Start}
 use Rattle.render.specs.Best.{Laid}
 use Rattle.render.specs.declared.End.{End}
@@ -86,13 +86,13 @@ module _ (T tx out ev w : List ℕ) (W limit : ℕ) (right : buffersRight (given
       }
 
   pub run-decided : (r : End) (out′ ev′ : List ℕ) → Laid T tx out ev W limit (length T / 4) r out′ ev′
-      → Decided (given T tx W limit (length out) (length ev) (length w)) (record { answer = r .answer; place = r .place; steps = limit - r .left; used = r .used; marks = r .marks }) out′ ev′
+      → Decided (given T tx W limit (length out) (length ev) (length w)) (record { answer = r .answer; place = r .place; steps = limit - r .left; used = r .used; marks = r .events }) out′ ev′
   run-decided r out′ ev′ p =
       let s = start-of in
       record {
         same = p .same ∙ layout-is T tx (limits (given T tx W limit (length out) (length ev) (length w))) (length T / 4) (s .some) (s .small) (s .valid) (s .room) ∙ sym (call-run (given T tx W limit (length out) (length ev) (length w)) right sound);
         used = p .used;
-        marks = p .marks;
+        marks = p .events;
       }
 
 -- ---- the buffers

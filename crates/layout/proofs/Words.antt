@@ -9,7 +9,7 @@ use lib.ListN.{getD, length, take, drop}
 use lib.Seq.{take-suc}
 use Rattle.rules.specs.Layout.{Event}
 use Rattle.rules.specs.Call.{wordsOf, eventWords}
-use Rattle.lay.specs.State.{eventAt, eventsOf}
+use Rattle.page.specs.Reading.{eventAt, eventsOf}
 
 words-append : (es fs : List Event) → wordsOf (es ++ fs) ≡ wordsOf es ++ wordsOf fs
 unfolding wordsOf

@@ -5,7 +5,7 @@ use mathlib.Core.List.{List}
 use lib.ListN.{length, take, replicate}
 use Rattle.rules.specs.Layout as rules
 use Rattle.rules.specs.Call.{Given, call, eventWords, wordsOf, padded}
-use Rattle.lay.specs.State.{eventsOf}
+use Rattle.page.specs.Reading.{eventsOf}
 use Rattle.layout.specs.declared.Report.{Report}
 
 -- the two defaults of document 01

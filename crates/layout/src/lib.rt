@@ -78,7 +78,7 @@ fn decide(
         place,
         steps: limit - end.left,
         used: end.used,
-        marks: end.marks,
+        marks: end.events,
     }
 }
 

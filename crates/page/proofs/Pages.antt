@@ -3,6 +3,7 @@
 --     written-full, written-on     bytes that don't fit, and bytes that were put behind those used
 --     noted-full, noted-on         an event with no record left for it, and one that was stored
 --     on-says, full-says           what an answer says of the test and of the page
+--     noted-counts                 the counts of a page with one event more
 --     before-kept                  a page reads as before where the bytes and events before p are kept and p grew from it
 --     put-back                     a page that p grew from is cut out of p
 -- Assumes nothing.
@@ -125,6 +126,18 @@ module _ {p : Page} {ev ev′ : List ℕ} {r : Put} {grown : rules.Page → rule
   pub noted-on-says : (q : Page) → r ≡ On q
       → (ltb (length (pageOf p out ev .events)) (length ev / eventWords) ≡ true) × (pageOf q out ev′ ≡ grown (pageOf p out ev))
   noted-on-says q e = on-says _ (sym (ap (λ (x : Put). answerOf x out ev′) e) ∙ n .answer out in-p)
+
+-- what an event counts
+pub noted-counts : {p q : Page} {ev ev′ : List ℕ} {mark label : ℕ} → Noted p ev (On q) ev′ (marked mark label) → p .events * eventWords ≤ length ev
+    → (q .used ≡ p .used) × (q .events ≡ p .events + 1) × (q .events * eventWords ≤ length ev′)
+noted-counts {p} {q} {ev} {ev′} n enough =
+    let out : List ℕ = replicate (p .used) 0 in
+    let in-p : Within p out ev = record { bytes = simp length-replicate (omega arith); events = enough } in
+    let in-q = n .within out in-p in
+    let said = noted-on-says n out in-p q refl .1 in
+    let bytes = sym (taken-is q out ev′ (in-q .bytes)) ∙ ap taken said ∙ taken-is p out ev (in-p .bytes) in
+    let events = sym (length-events (q .events) ev′) ∙ ap (λ (x : rules.Page). length (x .events)) said in
+    (bytes, events ∙ length-append (eventsOf (p .events) ev) _ ∙ ap (λ (k : ℕ). k + 1) (length-events (p .events) ev), in-q .events)
 
 -- ---- a page from before
 

@@ -15,9 +15,8 @@ use Rattle.machine.specs.Waiting.{Entry, node}
 use Rattle.machine.specs.Turn.{Env, Turned, on, stop, turn, visit}
 use Rattle.machine.specs.Well.{weight}
 use Rattle.machine.proofs.Kept.{Next, turn-next, nested-le}
-use Rattle.waiting.specs.Stack.{modeOf}
-use Rattle.waiting.specs.declared.Hand.{Hand}
-use Rattle.lay.specs.State.{top}
+use Rattle.waiting.specs.Stack.{modeOf, top}
+use Rattle.waiting.specs.declared.Due.{Due}
 use Rattle.render.specs.Visit.{again, Held, Came}
 
 -- one turn after the others
@@ -46,11 +45,16 @@ nest-turn : (E : Env) (p : Page) (left : ℕ) (o : Bool) (n a k i : ℕ) (way : 
 unfolding turn
 nest-turn E p left o n a k i way m w e = ap (λ (v : Node). visit E n v i m p left o w) e
 
-pub came-start : (T : List ℕ) (steps : ℕ) (start : Hand) → Came T steps start (record { left = steps; hand = start })
-came-start T steps start = record { more = 0; said = λ E p o w e. refl }
+-- what the loop keeps: the node due, and how the step function came there from the start
+pub record Falling (T : List ℕ) (steps : ℕ) (start : Due) (left : ℕ) (due : Due) : Type 0 where
+  pub held : Held T due
+  pub came : Came T steps start (record { left = left; due = due })
 
--- the Nest in hand
-module _ (T : List ℕ) (h : Hand) (f : Held T h) (kind : getD T (h .node .0 * 4) 0 ≡ 4) where
+pub falls-start : (T : List ℕ) (steps : ℕ) (start : Due) → Held T start → Falling T steps start steps start
+falls-start T steps start h = record { held = h; came = record { more = 0; said = λ E p o w e. refl } }
+
+-- the Nest due
+module _ {T : List ℕ} {h : Due} (f : Held T h) (kind : getD T (h .node .0 * 4) 0 ≡ 4) where
   abbrev n : ℕ
   n = h .node .0
 
@@ -65,10 +69,10 @@ module _ (T : List ℕ) (h : Hand) (f : Held T h) (kind : getD T (h .node .0 * 4
 
   -- its child stands next to it
   module _ (i : Indent) (child : getD T (n * 4 + 1) 0 + 1 ≡ n) (ei : i .0 ≡ nested (wayOf (getD T (n * 4 + 3) 0)) (getD T (n * 4 + 2) 0) (h .indent .0)) where
-    abbrev lower : Hand
+    abbrev lower : Due
     lower = record { node = record { 0 = n - 1 }; indent = i; mode = h .mode }
 
-    pub held-next : Held T lower
+    held-next : Held T lower
     held-next =
         record {
           known = record { N = f .known .N; size = f .known .size; valid = f .known .valid; words = f .known .words; node = omega (arith, f .known .node) };
@@ -76,7 +80,7 @@ module _ (T : List ℕ) (h : Hand) (f : Held T h) (kind : getD T (h .node .0 * 4
           indent = omega (arith, f .indent, sound .1, nested-le (wayOf (getD T (n * 4 + 3) 0)) (getD T (n * 4 + 2) 0) (h .indent .0));
         }
 
-    pub came-next : (steps left : ℕ) (start : Hand) → Came T steps start (record { left = left; hand = h }) → 0 < left → Came T steps start (record { left = left - 1; hand = lower })
+    came-next : (steps left : ℕ) (start : Due) → Came T steps start (record { left = left; due = h }) → 0 < left → Came T steps start (record { left = left - 1; due = lower })
     came-next steps left start c some =
         let e : left ≡ suc (left - 1) = omega arith in
         let a : getD T (n * 4 + 1) 0 ≡ n - 1 = omega arith in
@@ -87,3 +91,6 @@ module _ (T : List ℕ) (h : Hand) (f : Held T h) (kind : getD T (h .node .0 * 4
               ∙ nest-turn E p (left - 1) o n (n - 1) (getD T (n * 4 + 2) 0) (h .indent .0) (wayOf (getD T (n * 4 + 3) 0)) (modeOf (h .mode .0)) w (ap (λ (t : List ℕ). nodeAt t n) table ∙ node-is T n 4 kind ∙ ap (λ (x : ℕ). nest x (getD T (n * 4 + 2) 0) (wayOf (getD T (n * 4 + 3) 0))) a)
               ∙ ap (λ (x : ℕ). on p (left - 1) o (node (n - 1) x (modeOf (h .mode .0)) ∷ w)) (sym ei);
         }
+
+    pub falls-next : {steps left : ℕ} {start : Due} → Falling T steps start left h → 0 < left → Falling T steps start (left - 1) lower
+    falls-next c some = record { held = held-next; came = came-next _ _ _ (c .came) some }

@@ -5,26 +5,27 @@ use Prim.Native.Nat.{ℕ, suc, zero, _+_, _-_, _*_, _≤_, _<_}
 use native.Mathlib.Omega.{arith}
 use mathlib.Core.Bool.{Bool, true, false}
 use mathlib.Core.List.{List, [], _∷_}
-use lib.ListN.{length, take}
-use lib.Seq.{length-take-le}
+use lib.ListN.{length}
 use lib.Dec.{ltb}
 use Rattle.rules.specs.Call.{eventWords}
 use Rattle.choice.specs.Pick.{pick}
 use Rattle.table.specs.Sound.{AllSound}
 use Rattle.table.specs.declared.NodeNo.{NodeNo}
 use Rattle.rules.specs.Layout.{Page, Report, marked}
-use Rattle.machine.specs.Waiting.{Entry, node, trial, mark}
+use Rattle.machine.specs.Waiting.{Entry, node, trial, closing}
 use Rattle.machine.specs.Turn.{Env, Turned, on, stop, turn, run, layout, ended}
 use Rattle.machine.specs.Well.{Well, weight}
 use Rattle.machine.proofs.Kept.{Next, turn-next}
-use Rattle.waiting.specs.Stack.{flagOf, stackOf}
-use Rattle.waiting.specs.declared.Hand.{Hand}
-use Rattle.lay.specs.State.{handOf, top, eventsOf, pageOf}
+use Rattle.waiting.specs.Area.{dueOf}
+use Rattle.waiting.specs.Stack.{flagOf, top, stackOf}
+use Rattle.waiting.specs.declared.Due.{Due}
+use Rattle.page.specs.Reading.{eventsOf, pageOf, Within}
+use Rattle.page.proofs.Events.{length-events}
+use Rattle.page.proofs.Pages.{taken-is}
 use Rattle.lay.specs.Turning.{turnedOf}
 use Rattle.lay.specs.declared.State.{State}
 use Rattle.lay.specs.declared.Turn.{Turn}
 use Rattle.lay.specs.declared.Turn.the-variants.{Go, Done, Stop}
-use Rattle.lay.proofs.Events.{length-events}
 use Rattle.render.specs.Visit.{Start, Ready, envOf, again}
 use Rattle.render.specs.TakeUp.{takeUp, upFrom, TurnedUp}
 use Rattle.render.specs.Best.{Laid}
@@ -44,7 +45,7 @@ module _ (E : Env) (N : ℕ) (valid : AllSound (E .table) (length (E .str)) N) w
   run-turn zero p left o e w q lt = absurd (omega arith)
   run-turn (suc turns) p left o e w q lt = go (turn E p left o e w) (turn-next E N valid p left o e w q)
     where
-      go : (t : Turned) → Next (E .limits) N left (3 * left + weight (e ∷ w)) t → Reaches left (3 * left + weight (e ∷ w)) (elim t [ on p′ left′ over′ w′ ↦ run E turns p′ left′ over′ w′ | stop a n left′ ↦ ended E a n left′ ]) t
+      go : (t : Turned) → Next (E .limits) N left (3 * left + weight (e ∷ w)) t → Reaches left (3 * left + weight (e ∷ w)) (elim t [ on p′ left′ past′ w′ ↦ run E turns p′ left′ past′ w′ | stop a n left′ ↦ ended E a n left′ ]) t
       go (on p′ left′ o′ w′) h = (turns, h .0, h .1, omega (arith, h .2), refl, h .2)
       go (stop a n left′) h = (h .1, refl)
 
@@ -62,14 +63,14 @@ module _ (E : Env) (N : ℕ) (valid : AllSound (E .table) (length (E .str)) N) w
       (t .0, t .1, t .2, t .3, t .4, omega (arith, t .5))
   run-up (trial b i m s ∷ w) turns p left false q lt =
       let t = run-turn turns p left false (trial b i m s) w q lt in
-      reaches-from left left (suc (3 * left + weight w)) _ _ _ (takeUp (E .limits) p left (s .over) w) (omega arith) (omega (arith, t .5)) (t .4) (run-up w (t .0) p left (s .over) (t .1) (t .3))
-  run-up (mark n l ∷ w) turns p left o q lt =
-      by (ltb (length (p .events)) (E .limits .slots)) (λ turns′ q′ lt′. run-up w turns′ (marked 0 l p) left o q′ lt′) (run-turn turns p left o (mark n l) w q lt)
+      reaches-from left left (suc (3 * left + weight w)) _ _ _ (takeUp (E .limits) p left (s .past) w) (omega arith) (omega (arith, t .5)) (t .4) (run-up w (t .0) p left (s .past) (t .1) (t .3))
+  run-up (closing n l ∷ w) turns p left o q lt =
+      by (ltb (length (p .events)) (E .limits .slots)) (λ turns′ q′ lt′. run-up w turns′ (marked 0 l p) left o q′ lt′) (run-turn turns p left o (closing n l) w q lt)
     where
       by : (b : Bool)
           → ((turns′ : ℕ) → Well (E .limits) N (marked 0 l p) w → 3 * left + weight w < turns′ → Reaches left (suc (3 * left + weight w)) (run E turns′ (marked 0 l p) left o w) (takeUp (E .limits) (marked 0 l p) left o w))
-          → Reaches left (3 * left + weight (mark n l ∷ w)) (run E turns p left o (mark n l ∷ w)) (pick b (on (marked 0 l p) left o w) (stop 9 n left))
-          → Reaches left (suc (3 * left + weight (mark n l ∷ w))) (run E turns p left o (mark n l ∷ w)) (pick b (takeUp (E .limits) (marked 0 l p) left o w) (stop 9 n left))
+          → Reaches left (3 * left + weight (closing n l ∷ w)) (run E turns p left o (closing n l ∷ w)) (pick b (on (marked 0 l p) left o w) (stop 9 n left))
+          → Reaches left (suc (3 * left + weight (closing n l ∷ w))) (run E turns p left o (closing n l ∷ w)) (pick b (takeUp (E .limits) (marked 0 l p) left o w) (stop 9 n left))
       by true ih t = reaches-from left left (suc (3 * left + weight w)) _ _ _ (takeUp (E .limits) (marked 0 l p) left o w) (omega arith) (omega (arith, t .5)) (t .4) (ih (t .0) (t .1) (t .3))
       by false ih t = t
 
@@ -110,22 +111,21 @@ module _ (T tx : List ℕ) (W limit N : ℕ) where
         width = h .width;
       }
 
-  -- out₀, ev₀, w₀ where the loop began; out, ev, w now; the node in hand and the state
-  pub record Going (out₀ ev₀ w₀ out ev w : List ℕ) (h : Hand) (s : State) : Type 0 where
+  -- out₀, ev₀, w₀ where the loop began; out, ev, w now; the node due and the state
+  pub record Going (out₀ ev₀ w₀ out ev w : List ℕ) (h : Due) (s : State) : Type 0 where
     pub start : Start T tx out ev w W N
     pub outs : length out ≡ length out₀
     pub evs : length ev ≡ length ev₀
     pub works : length w ≡ length w₀
-    pub used : s .used ≤ length out
-    pub marks : s .marks * eventWords ≤ length ev
-    pub well : Well (E out ev .limits) N (pageOf s out ev) (top h ∷ stackOf (s .depth) w)
+    pub within : Within (s .page) out ev
+    pub well : Well (E out ev .limits) N (pageOf (s .page) out ev) (top h ∷ stackOf (s .depth) w)
     pub left : s .left ≤ limit
     pub turns : ℕ
     pub enough : 3 * s .left + weight (top h ∷ stackOf (s .depth) w) < turns
-    pub said : run (E out ev) turns (pageOf s out ev) (s .left) (flagOf (s .over)) (top h ∷ stackOf (s .depth) w) ≡ layout (E out₀ ev₀) (N - 1)
+    pub said : run (E out ev) turns (pageOf (s .page) out ev) (s .left) (flagOf (s .past)) (top h ∷ stackOf (s .depth) w) ≡ layout (E out₀ ev₀) (N - 1)
 
   pub going-start : (out ev w : List ℕ) → Start T tx out ev w W N
-      → Going out ev w out ev w (handOf (N - 1) 0 0) (record { column = record { 0 = 0 }; used = 0; marks = 0; left = limit; over = 0; depth = 0 })
+      → Going out ev w out ev w (dueOf (N - 1) 0 0) (record { page = record { column = record { 0 = 0 }; used = 0; events = 0 }; left = limit; past = 0; depth = 0 })
   unfolding layout eventsOf
   going-start out ev w h =
       record {
@@ -133,88 +133,98 @@ module _ (T tx : List ℕ) (W limit N : ℕ) where
         outs = refl;
         evs = refl;
         works = refl;
-        used = omega arith;
-        marks = omega arith;
-        well = record { column = omega arith; fits = omega arith; room = h .room; stack = (omega (arith, h .some), omega (arith, h .some), tt) };
+        within = record { bytes = omega arith; events = omega arith };
+        well = record {
+          column = omega arith;
+          fits = omega arith;
+          room = h .room;
+          stack = (record { number = omega (arith, h .some); indent = omega (arith, h .some) }, tt);
+        };
         left = omega arith;
         turns = 3 * limit + 2;
         enough = omega arith;
         said = refl;
       }
 
-  module _ (out₀ ev₀ w₀ out ev w : List ℕ) (h : Hand) (s : State) (g : Going out₀ ev₀ w₀ out ev w h s) where
-    -- with no step left the node in hand is due
-    pub laid-due : s .left ≡ 0 → Laid T tx out₀ ev₀ W limit N (record { answer = 7; place = h .node; left = 0; used = 0; marks = 0 }) out ev
-    unfolding run turn eventsOf
-    laid-due e =
-        let f : g .turns ≡ suc (g .turns - 1) = omega (arith, g .enough) in
-        record { same = rw (f, e) at (g .said); used = omega arith; marks = omega arith; left = omega arith }
+module _ {T tx : List ℕ} {W limit N : ℕ} {out₀ ev₀ w₀ out ev w : List ℕ} {h : Due} {s : State}
+    (g : Going T tx W limit N out₀ ev₀ w₀ out ev w h s) where
+  -- the step function's report from the root, which the run from here gives
+  abbrev whole : Report
+  whole = layout (E T tx W limit N out₀ ev₀) (N - 1)
 
-    -- with a step left: the state that the turn starts from has one less
-    module _ (some : s .left ≡ 0 → ⊥) where
-      abbrev s₁ : State
-      s₁ = record { column = s .column; used = s .used; marks = s .marks; left = s .left - 1; over = s .over; depth = s .depth }
+  abbrev here : Env
+  here = E T tx W limit N out ev
 
-      pub going-ready : Ready T tx out ev w W s₁ h
-      going-ready =
-          let u : length (take (s .used) out) ≡ s .used = length-take-le (s .used) out (g .used) in
+  -- a node is due with no step left
+  pub laid-due : s .left ≡ 0 → Laid T tx out₀ ev₀ W limit N (record { answer = 7; place = h .node; left = 0; used = 0; events = 0 }) out ev
+  unfolding run turn eventsOf
+  laid-due e =
+      let f : g .turns ≡ suc (g .turns - 1) = omega (arith, g .enough) in
+      record { same = rw (f, e) at (g .said); used = omega arith; events = omega arith; left = omega arith }
+
+  -- with a step left: the state that the turn starts from has one less
+  module _ (some : s .left ≡ 0 → ⊥) where
+    abbrev s₁ : State
+    s₁ = record { page = s .page; left = s .left - 1; past = s .past; depth = s .depth }
+
+    pub going-ready : Ready T tx out ev w W s₁ h
+    going-ready =
+        let t = taken-is (s .page) out ev (g .within .bytes) in
+        record {
+          N = N;
+          start = g .start;
+          within = g .within;
+          column = rw t at (g .well .column);
+          stack = rw (t, length-events (s .page .events) ev) at (g .well .stack);
+        }
+
+    module _ {r : Turn} {out′ ev′ w′ : List ℕ} (p : TurnedUp T tx out ev w W s₁ h r out′ ev′ w′) (eo : length out′ ≡ length out) (ee : length ev′ ≡ length ev) (ew : length w′ ≡ length w) where
+      -- where the turn leads, the run goes on
+      reach : Reaches here N (g .start .valid) (s .left) (3 * s .left + weight (top h ∷ stackOf (s .depth) w)) whole (turnedOf r out′ ev′ w′)
+      unfolding turn
+      reach =
+          let f : s .left ≡ suc (s .left - 1) = omega arith in
+          let t : Reaches here N (g .start .valid) (suc (s .left - 1)) (3 * suc (s .left - 1) + weight (top h ∷ stackOf (s .depth) w)) (run here (g .turns) (pageOf (s .page) out ev) (suc (s .left - 1)) (flagOf (s .past)) (top h ∷ stackOf (s .depth) w)) (turnedOf r out′ ev′ w′) =
+          rw (p .turning limit .same) (run-on here N (g .start .valid) (g .turns) (pageOf (s .page) out ev) (suc (s .left - 1)) (flagOf (s .past)) (top h) (stackOf (s .depth) w) (p .more) (g .well) (omega (arith, g .enough))) in
+          reaches-from here N (g .start .valid) (suc (s .left - 1)) (s .left) _ _ _ _ (turnedOf r out′ ev′ w′) (omega arith) (omega arith) (sym (g .said) ∙ ap (λ (k : ℕ). run here (g .turns) (pageOf (s .page) out ev) k (flagOf (s .past)) (top h ∷ stackOf (s .depth) w)) f) t
+
+      pub going-on : {c : Due} {a : State} → r ≡ Go a c → Going T tx W limit N out₀ ev₀ w₀ out′ ev′ w′ c a
+      going-on {c} {a} e =
+          let t = rw e at reach in
+          let q = rw e at (p .turning limit) in
           record {
-            N = N;
-            start = g .start;
-            used = g .used;
-            marks = g .marks;
-            column = rw u at (g .well .column);
-            stack = rw (u, length-events (s .marks) ev) at (g .well .stack);
+            start = start-kept T tx W limit N out ev w out′ ev′ w′ eo ee ew (g .start);
+            outs = eo ∙ g .outs;
+            evs = ee ∙ g .evs;
+            works = ew ∙ g .works;
+            within = q .within;
+            well = rw (eo, ee) (t .1);
+            left = omega (arith, t .2, g .left);
+            turns = t .0;
+            enough = t .3;
+            said = rw (eo, ee) (sym (t .4));
           }
 
-      module _ (r : Turn) (out′ ev′ w′ : List ℕ) (p : TurnedUp T tx out ev w W s₁ h r out′ ev′ w′) (eo : length out′ ≡ length out) (ee : length ev′ ≡ length ev) (ew : length w′ ≡ length w) where
-        -- where the turn leads, the run goes on
-        reach : Reaches (E out ev) N (g .start .valid) (s .left) (3 * s .left + weight (top h ∷ stackOf (s .depth) w)) (layout (E out₀ ev₀) (N - 1)) (turnedOf r out′ ev′ w′)
-        unfolding turn
-        reach =
-            let f : s .left ≡ suc (s .left - 1) = omega arith in
-            let t : Reaches (E out ev) N (g .start .valid) (suc (s .left - 1)) (3 * suc (s .left - 1) + weight (top h ∷ stackOf (s .depth) w)) (run (E out ev) (g .turns) (pageOf s out ev) (suc (s .left - 1)) (flagOf (s .over)) (top h ∷ stackOf (s .depth) w)) (turnedOf r out′ ev′ w′) =
-            rw (p .turning limit .same) (run-on (E out ev) N (g .start .valid) (g .turns) (pageOf s out ev) (suc (s .left - 1)) (flagOf (s .over)) (top h) (stackOf (s .depth) w) (p .more) (g .well) (omega (arith, g .enough))) in
-            reaches-from (E out ev) N (g .start .valid) (suc (s .left - 1)) (s .left) _ _ _ _ (turnedOf r out′ ev′ w′) (omega arith) (omega arith) (sym (g .said) ∙ ap (λ (k : ℕ). run (E out ev) (g .turns) (pageOf s out ev) k (flagOf (s .over)) (top h ∷ stackOf (s .depth) w)) f) t
+      pub going-less : {c : Due} {a : State} → r ≡ Go a c → 3 * a .left + weight (top c ∷ stackOf (a .depth) w′) < 3 * s .left + weight (top h ∷ stackOf (s .depth) w)
+      going-less {c} {a} e = let t = rw e at reach in t .5
 
-        pub going-on : (c : Hand) (a : State) → r ≡ Go a c → Going out₀ ev₀ w₀ out′ ev′ w′ c a
-        going-on c a e =
-            let t = rw e at reach in
-            let q = rw e at (p .turning limit) in
-            record {
-              start = start-kept out ev w out′ ev′ w′ eo ee ew (g .start);
-              outs = eo ∙ g .outs;
-              evs = ee ∙ g .evs;
-              works = ew ∙ g .works;
-              used = q .used;
-              marks = q .marks;
-              well = rw (eo, ee) (t .1);
-              left = omega (arith, t .2, g .left);
-              turns = t .0;
-              enough = t .3;
-              said = rw (eo, ee) (sym (t .4));
-            }
+      -- what is used goes into a word
+      pub done-small : {a : State} → r ≡ Done a → (a .page .used ≤ 65536) × (a .page .events ≤ 4096)
+      done-small {a} e =
+          let q = rw e at (p .turning limit) in
+          (omega (arith, q .within .bytes, eo, g .start .room), omega (arith, q .within .events, ee, g .start .slots))
 
-        pub going-less : (c : Hand) (a : State) → r ≡ Go a c → 3 * a .left + weight (top c ∷ stackOf (a .depth) w′) < 3 * s .left + weight (top h ∷ stackOf (s .depth) w)
-        going-less c a e = let t = rw e at reach in t .5
+      pub laid-done : {a : State} → r ≡ Done a → Laid T tx out₀ ev₀ W limit N (record { answer = 0; place = record { 0 = 0 }; left = a .left; used = a .page .used; events = a .page .events }) out′ ev′
+      unfolding run
+      laid-done {a} e =
+          let t = rw e at reach in
+          let q = rw e at (p .turning limit) in
+          let z : stackOf (a .depth) w′ ≡ [] = ap (λ (k : ℕ). stackOf k w′) (p .empty a e) in
+          let f : t .0 ≡ suc (t .0 - 1) = omega (arith, t .3) in
+          record { same = sym (t .4 ∙ rw (z, f)); used = q .within .bytes; events = q .within .events; left = omega (arith, t .2, g .left) }
 
-        -- what is used goes into a word
-        pub done-small : (a : State) → r ≡ Done a → (a .used ≤ 65536) × (a .marks ≤ 4096)
-        done-small a e =
-            let q = rw e at (p .turning limit) in
-            (omega (arith, q .used, eo, g .start .room), omega (arith, q .marks, ee, g .start .slots))
-
-        pub laid-done : (a : State) → r ≡ Done a → Laid T tx out₀ ev₀ W limit N (record { answer = 0; place = record { 0 = 0 }; left = a .left; used = a .used; marks = a .marks }) out′ ev′
-        unfolding run
-        laid-done a e =
-            let t = rw e at reach in
-            let q = rw e at (p .turning limit) in
-            let z : stackOf (a .depth) w′ ≡ [] = ap (λ (k : ℕ). stackOf k w′) (p .empty a e) in
-            let f : t .0 ≡ suc (t .0 - 1) = omega (arith, t .3) in
-            record { same = sym (t .4 ∙ rw (z, f)); used = q .used; marks = q .marks; left = omega (arith, t .2, g .left) }
-
-        pub laid-stop : (a : ℕ) (n : NodeNo) (left : ℕ) → r ≡ Stop a n left → Laid T tx out₀ ev₀ W limit N (record { answer = a; place = n; left = left; used = 0; marks = 0 }) out′ ev′
-        unfolding eventsOf
-        laid-stop a n left e =
-            let t = rw e at reach in
-            record { same = sym (t .1); used = omega arith; marks = omega arith; left = omega (arith, t .0, g .left) }
+      pub laid-stop : {a : ℕ} {n : NodeNo} {left : ℕ} → r ≡ Stop a n left → Laid T tx out₀ ev₀ W limit N (record { answer = a; place = n; left = left; used = 0; events = 0 }) out′ ev′
+      unfolding eventsOf
+      laid-stop {a} {n} {left} e =
+          let t = rw e at reach in
+          record { same = sym (t .1); used = omega arith; events = omega arith; left = omega (arith, t .0, g .left) }

@@ -1,4 +1,4 @@
--- What a run starts from; what a visit of the node in hand starts from, and what it promises.
+-- What a run starts from; what a visit of the node due starts from, and what it promises.
 use mathlib.Core.Path.{_≡_}
 use Prim.Native.Nat.{ℕ, zero, suc, _+_, _*_, _/_, _≤_, _<_}
 use mathlib.Core.Bool.{Bool}
@@ -11,10 +11,11 @@ use Rattle.rules.specs.Layout.{Page}
 use Rattle.machine.specs.Waiting.{Entry}
 use Rattle.machine.specs.Turn.{Env, Turned, on, stop, turn, visit}
 use Rattle.machine.specs.Well.{Stacked}
-use Rattle.waiting.specs.Stack.{modeOf, flagOf, stackOf}
-use Rattle.waiting.specs.declared.Hand.{Hand}
+use Rattle.waiting.specs.Area.{areaWords}
+use Rattle.waiting.specs.Stack.{modeOf, flagOf, top, stackOf}
+use Rattle.waiting.specs.declared.Due.{Due}
 use Rattle.fitting.specs.Fitting.{Known}
-use Rattle.lay.specs.State.{top, pageOf}
+use Rattle.page.specs.Reading.{pageOf, takes, Within}
 use Rattle.lay.specs.Turning.{Turning}
 use Rattle.lay.specs.declared.State.{State}
 use Rattle.lay.specs.declared.Turn.{Turn}
@@ -34,42 +35,43 @@ pub record Start (T tx out ev w : List ℕ) (W N : ℕ) : Type 0 where
   pub texts : length tx ≤ 65536
   pub room : length out ≤ 65536
   pub slots : length ev / eventWords ≤ 4096
-  pub area : 16384 ≤ length w
+  pub area : areaWords ≤ length w
   pub width : W ≤ 65535
 
--- the same with a state that is well, and the node in hand on top
-pub record Ready (T tx out ev w : List ℕ) (W : ℕ) (s : State) (h : Hand) : Type 0 where
+-- the same with a state that is well, and the node due on top
+pub record Ready (T tx out ev w : List ℕ) (W : ℕ) (s : State) (h : Due) : Type 0 where
   pub N : ℕ
   pub start : Start T tx out ev w W N
-  pub used : s .used ≤ length out
-  pub marks : s .marks * eventWords ≤ length ev
-  pub column : s .column .0 ≤ s .used
-  pub stack : Stacked N (s .used) (s .marks) (top h ∷ stackOf (s .depth) w)
+  pub within : Within (s .page) out ev
+  pub column : s .page .column .0 ≤ takes (s .page)
+  pub stack : Stacked N (length out) (s .page .used) (s .page .events) (top h ∷ stackOf (s .depth) w)
 
 -- the visit of the step function
-abbrev pub visited : List ℕ → List ℕ → List ℕ → List ℕ → List ℕ → ℕ → ℕ → State → Hand → Turned
+abbrev pub visited : List ℕ → List ℕ → List ℕ → List ℕ → List ℕ → ℕ → ℕ → State → Due → Turned
 visited T tx out ev w W limit s h =
-    visit (envOf T tx out ev W limit) (h .node .0) (nodeAt T (h .node .0)) (h .indent .0) (modeOf (h .mode .0)) (pageOf s out ev) (s .left) (flagOf (s .over)) (stackOf (s .depth) w)
+    visit (envOf T tx out ev W limit) (h .node .0) (nodeAt T (h .node .0)) (h .indent .0) (modeOf (h .mode .0))
+    (pageOf (s .page) out ev) (s .left) (flagOf (s .past)) (stackOf (s .depth) w)
 
 -- so many turns of the step function more
 abbrev pub again : Env → ℕ → Turned → Turned
 again E zero t = t
-again E (suc k) (on p left over []) = on p left over []
-again E (suc k) (on p left over (e ∷ w)) = again E k (turn E p left over e w)
+again E (suc k) (on p left past []) = on p left past []
+again E (suc k) (on p left past (e ∷ w)) = again E k (turn E p left past e w)
 again E (suc k) (stop a n left) = stop a n left
 
 -- it leads where the step function leads, by the visit and some turns more
-pub record Visited (T tx out ev w : List ℕ) (W : ℕ) (s : State) (h : Hand) (r : Turn) (out′ ev′ w′ : List ℕ) : Type 0 where
+pub record Visited (T tx out ev w : List ℕ) (W : ℕ) (s : State) (h : Due) (r : Turn) (out′ ev′ w′ : List ℕ) : Type 0 where
   pub more : ℕ
   pub turning : (limit : ℕ) → Turning r out′ ev′ w′ (again (envOf T tx out ev W limit) more (visited T tx out ev w W limit s h))
 
--- a node in hand of a valid table, its indentation within what its number allows
-pub record Held (T : List ℕ) (h : Hand) : Type 0 where
+-- a node due of a valid table, its indentation within what its number allows
+pub record Held (T : List ℕ) (h : Due) : Type 0 where
   pub known : Known T (h .node .0)
   pub small : known .N ≤ 1024
   pub indent : h .indent .0 + 1000 * suc (h .node .0) ≤ 65536 + 1000 * known .N
 
--- from h with so many steps left the step function comes to r, and nothing but the node in hand has changed
-pub record Came (T : List ℕ) (left : ℕ) (h : Hand) (r : Nested) : Type 0 where
+-- from h with so many steps left the step function comes to r, and nothing but the node due has changed
+pub record Came (T : List ℕ) (left : ℕ) (h : Due) (r : Nested) : Type 0 where
   pub more : ℕ
-  pub said : (E : Env) (p : Page) (over : Bool) (w : List Entry) → E .table ≡ T → again E more (on p left over (top h ∷ w)) ≡ on p (r .left) over (top (r .hand) ∷ w)
+  pub said : (E : Env) (p : Page) (past : Bool) (w : List Entry) → E .table ≡ T
+      → again E more (on p left past (top h ∷ w)) ≡ on p (r .left) past (top (r .due) ∷ w)

@@ -1,13 +1,15 @@
 // The engine: `best` lays a valid table out, node after node.
 //
-// The node in hand is visited, then what waits is taken up: ends of annotations and of trials, until a node is in hand again or nothing waits.
+// The node due is visited, then what waits is taken up: ends of annotations and of trials, until a node is due again or nothing waits.
 // Not an entry point of the library: the crate layout tests sizes and the table before it comes here, and clears the buffers after it.
 use lay::State;
 use lay::Turn;
+use page::Page;
+use page::Put;
 use table::Column;
 use table::Indent;
 use table::NodeNo;
-use waiting::Hand;
+use waiting::Due;
 use waiting::Mode;
 ghost use Rattle.render.specs.Visit.{Start, Ready, Visited, Held, Came};
 ghost use Rattle.render.specs.TakeUp.{Rises, TakenUp, TurnedUp};
@@ -19,45 +21,45 @@ pub struct End {
     pub place: NodeNo,
     pub left: u32,
     pub used: u32,
-    pub marks: u32,
+    pub events: u32,
 }
 
-// A node in hand, and the steps left.
+// A node due, and the steps left.
 pub struct Nested {
     pub left: u32,
-    pub hand: Hand,
+    pub due: Due,
 }
 
-// Nests in a row are gone down from the node in hand, each the child of the one before it and next to it in the table, as far as there are
+// Nests in a row are gone down from the node due, each the child of the one before it and next to it in the table, as far as there are
 // steps. The next one's place is known before this one's child is read, so that a long row doesn't wait for its reads.
-fn nests_down(table: &[u32], steps: u32, start: Hand) -> Nested
+fn nests_down(table: &[u32], steps: u32, start: Due) -> Nested
     requires { ⌜ Held (now table) start ⌝ }
     ensures { λ r. ⌜ Came (now (table .entry)) steps start r ⌝ }
 {
     let mut left = steps;
-    let mut hand = start;
+    let mut due = start;
     while 0 < left {
-        let n = hand.node.0;
+        let n = due.node.0;
         let at = (n as usize) * 4;
-        if table[at] != 4 {
-            return Nested { left, hand };
+        if table[at] != table::NEST {
+            return Nested { left, due };
         }
         if table[at + 1] + 1 != n {
-            return Nested { left, hand };
+            return Nested { left, due };
         }
-        let indent = lay::nest_by(hand.indent, table[at + 2], table[at + 3]);
-        let mode = hand.mode;
-        hand = Hand {
+        let indent = lay::nest_by(due.indent, table[at + 2], table[at + 3]);
+        let mode = due.mode;
+        due = Due {
             node: NodeNo(n - 1),
             indent,
             mode,
         };
         left -= 1;
     }
-    Nested { left, hand }
+    Nested { left, due }
 }
 
-// The node in hand is visited. A word is read where it is used: read all at once they would take the registers of others.
+// The node due is visited. A word is read where it is used: read all at once they would take the registers of others.
 fn visit(
     table: &[u32],
     text: &[u8],
@@ -66,48 +68,50 @@ fn visit(
     work: &mut [u32],
     width: u32,
     s: State,
-    hand: Hand,
+    due: Due,
 ) -> Turn
-    requires { ⌜ Ready (now table) (now text) (now out) (now events) (now work) width s hand ⌝ }
-    ensures { λ r. ⌜ Visited (now (table .entry)) (now (text .entry)) (now (out .entry)) (now (events .entry)) (now (work .entry)) width s hand r (now (out .exit)) (now (events .exit)) (now (work .exit)) ⌝ }
+    requires { ⌜ Ready (now table) (now text) (now out) (now events) (now work) width s due ⌝ }
+    ensures { λ r. ⌜ Visited (now (table .entry)) (now (text .entry))
+        (now (out .entry)) (now (events .entry)) (now (work .entry)) width s due
+        r (now (out .exit)) (now (events .exit)) (now (work .exit)) ⌝ }
 {
-    let at = (hand.node.0 as usize) * 4;
+    let at = (due.node.0 as usize) * 4;
     let kind = table[at];
     let a = table[at + 1];
-    let own = hand.indent;
-    let mode = hand.mode;
+    let own = due.indent;
+    let mode = due.mode;
     match kind {
-        0 => Turn::Done(s),
-        1 => lay::lay_append(work, s, hand, a, table[at + 2]),
-        2 => lay::lay_group(table, work, width, s, hand, a),
-        3 => if mode.0 == 0 {
-            Turn::Go(s, lay::child_of(hand, a))
+        table::NIL => Turn::Done(s),
+        table::APPEND => lay::lay_append(work, s, due, a, table[at + 2]),
+        table::GROUP => lay::lay_group(table, work, width, s, due, a),
+        table::FLAT_ALT => if mode.0 == 0 {
+            Turn::Go(s, lay::child_of(due, a))
         } else {
-            Turn::Go(s, lay::child_of(hand, table[at + 2]))
+            Turn::Go(s, lay::child_of(due, table[at + 2]))
         },
-        4 => {
+        table::NEST => {
             let indent = lay::nest_by(own, table[at + 2], table[at + 3]);
-            let child = Hand {
+            let child = Due {
                 node: NodeNo(a),
                 indent,
                 mode,
             };
             let row = nests_down(table, s.left, child);
-            let last = row.hand;
+            let last = row.due;
             let mut next = s;
             next.left = row.left;
             Turn::Go(next, last)
         }
-        5 => lay::lay_hardline(out, work, s, own),
-        6 => lay::lay_text(text, out, width, s, a, table[at + 2], table[at + 3]),
-        7 => lay::lay_annotated(events, work, s, hand, a, table[at + 2]),
-        8 => lay::lay_union(work, s, hand, a, table[at + 2]),
-        9 => {
-            let column = s.column;
+        table::HARDLINE => lay::lay_hardline(out, work, s, own),
+        table::TEXT => lay::lay_text(text, out, width, s, a, table[at + 2], table[at + 3]),
+        table::ANNOTATED => lay::lay_annotated(events, work, s, due, a, table[at + 2]),
+        table::UNION => lay::lay_union(work, s, due, a, table[at + 2]),
+        table::ALIGN => {
+            let column = s.page.column;
             let indent = column.to_indent();
             Turn::Go(
                 s,
-                Hand {
+                Due {
                     node: NodeNo(a),
                     indent,
                     mode,
@@ -118,7 +122,7 @@ fn visit(
     }
 }
 
-// Ends are taken up, until a node goes on or nothing waits.
+// Ends are taken up, until a node is due or nothing waits. A trial whose arm is done is given up if a Text laid in it ended past width.
 fn take_up_ends(events: &mut [u32], work: &[u32], state: State) -> Turn
     requires { ⌜ Rises state (now events) (now work) ⌝ }
     ensures { λ r. ⌜ TakenUp state (now (events .entry)) (now (work .entry)) r (now (events .exit)) ⌝ }
@@ -126,39 +130,40 @@ fn take_up_ends(events: &mut [u32], work: &[u32], state: State) -> Turn
     let mut s = state;
     while 0 < s.depth {
         let d = s.depth - 1;
-        let tag = work[d * 4 + 3];
+        let tag = waiting::tag_at(work, d);
         if tag == waiting::NODE {
             s.depth = d;
-            return Turn::Go(s, waiting::hand_at(work, d));
+            return Turn::Go(s, waiting::due_at(work, d));
         }
         if tag == waiting::TRIAL {
             let saved = waiting::saved_at(work, d);
-            if s.over != 0 {
-                return Turn::Go(lay::restored(s, saved, d), waiting::hand_at(work, d));
+            if s.past != 0 {
+                return Turn::Go(lay::restored(s, saved, d), waiting::due_at(work, d));
             }
-            s.over = saved.over;
+            s.past = saved.past;
         } else {
-            if !lay::put_event(events, s.marks, s.used, 0, work[d * 4 + 1]) {
-                return Turn::Stop(9, NodeNo(work[d * 4]), s.left);
-            }
-            s.marks = s.marks + 1;
+            let now = s.page;
+            let Put::On(page) = page::note_event(events, now, 0, waiting::label_at(work, d)) else {
+                return Turn::Stop(9, waiting::node_at(work, d), s.left);
+            };
+            s.page = page;
         }
         s.depth = d;
     }
     Turn::Done(s)
 }
 
-// A node is done: a node on top goes on at once, as mostly; else ends are taken up first.
+// A node is done: a node on top is due at once, as mostly; else ends are taken up first.
 fn take_up(events: &mut [u32], work: &[u32], state: State) -> Turn
     requires { ⌜ Rises state (now events) (now work) ⌝ }
     ensures { λ r. ⌜ TakenUp state (now (events .entry)) (now (work .entry)) r (now (events .exit)) ⌝ }
 {
     if 0 < state.depth {
         let d = state.depth - 1;
-        if work[d * 4 + 3] == waiting::NODE {
+        if waiting::tag_at(work, d) == waiting::NODE {
             let mut s = state;
             s.depth = d;
-            return Turn::Go(s, waiting::hand_at(work, d));
+            return Turn::Go(s, waiting::due_at(work, d));
         }
     }
     take_up_ends(events, work, state)
@@ -173,12 +178,14 @@ fn turn(
     work: &mut [u32],
     width: u32,
     s: State,
-    hand: Hand,
+    due: Due,
 ) -> Turn
-    requires { ⌜ Ready (now table) (now text) (now out) (now events) (now work) width s hand ⌝ }
-    ensures { λ r. ⌜ TurnedUp (now (table .entry)) (now (text .entry)) (now (out .entry)) (now (events .entry)) (now (work .entry)) width s hand r (now (out .exit)) (now (events .exit)) (now (work .exit)) ⌝ }
+    requires { ⌜ Ready (now table) (now text) (now out) (now events) (now work) width s due ⌝ }
+    ensures { λ r. ⌜ TurnedUp (now (table .entry)) (now (text .entry))
+        (now (out .entry)) (now (events .entry)) (now (work .entry)) width s due
+        r (now (out .exit)) (now (events .exit)) (now (work .exit)) ⌝ }
 {
-    match visit(table, text, out, events, work, width, s, hand) {
+    match visit(table, text, out, events, work, width, s, due) {
         Turn::Go(on, next) => Turn::Go(on, next),
         Turn::Done(on) => take_up(events, work, on),
         Turn::Stop(answer, place, left) => Turn::Stop(answer, place, left),
@@ -197,36 +204,39 @@ pub fn best(
     nodes: u32,
 ) -> End
     requires { ⌜ Start (now table) (now text) (now out) (now events) (now work) width nodes ⌝ }
-    ensures { λ r. ⌜ Laid (now (table .entry)) (now (text .entry)) (now (out .entry)) (now (events .entry)) width limit nodes r (now (out .exit)) (now (events .exit)) ⌝ }
+    ensures { λ r. ⌜ Laid (now (table .entry)) (now (text .entry)) (now (out .entry)) (now (events .entry)) width limit nodes
+        r (now (out .exit)) (now (events .exit)) ⌝ }
 {
-    let mut hand = Hand {
+    let mut due = Due {
         node: NodeNo(nodes - 1),
         indent: Indent(0),
         mode: Mode(0),
     };
     let mut s = State {
-        column: Column(0),
+        page: Page {
+            column: Column(0),
+            used: 0,
+            events: 0,
+        },
         left: limit,
-        used: 0,
-        marks: 0,
-        over: 0,
+        past: 0,
         depth: 0,
     };
     loop {
         if s.left == 0 {
-            let place = hand.node;
+            let place = due.node;
             return End {
                 answer: 7,
                 place,
                 left: 0,
                 used: 0,
-                marks: 0,
+                events: 0,
             };
         }
         s.left = s.left - 1;
-        match turn(table, text, out, events, work, width, s, hand) {
+        match turn(table, text, out, events, work, width, s, due) {
             Turn::Go(on, next) => {
-                hand = next;
+                due = next;
                 s = on;
             }
             Turn::Done(on) => {
@@ -234,8 +244,8 @@ pub fn best(
                     answer: 0,
                     place: NodeNo(0),
                     left: on.left,
-                    used: on.used as u32,
-                    marks: on.marks as u32,
+                    used: on.page.used as u32,
+                    events: on.page.events as u32,
                 };
             }
             Turn::Stop(answer, place, left) => {
@@ -244,7 +254,7 @@ pub fn best(
                     place,
                     left,
                     used: 0,
-                    marks: 0,
+                    events: 0,
                 };
             }
         }

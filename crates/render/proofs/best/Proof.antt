@@ -1,8 +1,7 @@
 -- `render::best` meets its contract: the loop carries `Going`, the run from here is the layout from the root; its measure falls by `going-less`.
 -- Assumes nothing.
 use Rattle.machine.specs.Well.{weight}
-use Rattle.waiting.specs.Stack.{stackOf}
-use Rattle.lay.specs.State.{top}
+use Rattle.waiting.specs.Stack.{top, stackOf}
 use Rattle.render.proofs.Going.{Going, going-start, going-ready, going-on, going-less, laid-due, done-small, laid-done, laid-stop}
 use borrow.Author.Needs.{needs}
 use native.Mathlib.Omega.{arith}
@@ -10,13 +9,24 @@ use mathlib.Core.Path.{_∙_}
 use mathlib.Core.List.{_∷_}
 use Prim.Native.Nat.{_+_, _*_}
 use Rattle.render.proofs.best.Statement.{statement}
+use Rattle.render.proofs.best.Reads as reads
+use Rattle.render.proofs.best.Lts as lts
 use Rattle.render.proofs.best.Tie as tie
 
 abbrev Inv-loop : tie.InvT-loop
-Inv-loop table text out₀ events₀ work₀ width limit nodes hand₀ s₀ out events work hand s = Going table text width limit nodes out₀ events₀ work₀ out events work hand s
+Inv-loop table text out₀ events₀ work₀ width limit nodes due₀ s₀ out events work due s =
+    Going table text width limit nodes out₀ events₀ work₀ out events work due s
 
 abbrev μ-loop : tie.MeasureT-loop
-μ-loop table text out₀ events₀ work₀ width limit nodes hand₀ s₀ out events work hand s = 3 * s .left + weight (top hand ∷ stackOf (s .depth) work)
+μ-loop table text out₀ events₀ work₀ width limit nodes due₀ s₀ out events work due s =
+    3 * s .left + weight (top due ∷ stackOf (s .depth) work)
+
+-- the turn, from where its answer is taken apart; the test of the steps left, from the turn
+abbrev turn-of : {claims : lts.Claims} → lts.After-slice-known6 claims reads.Pre reads.Post Inv-loop μ-loop → lts.After-turn claims reads.Pre reads.Post Inv-loop μ-loop
+turn-of answered = answered .before .before .before .before .before .before
+
+abbrev test-of : {claims : lts.Claims} → lts.After-turn claims reads.Pre reads.Post Inv-loop μ-loop → lts.Else1 claims reads.Pre reads.Post Inv-loop μ-loop
+test-of turned = turned .before .before .before .before .before
 
 sub-t18 : tie.Need-sub-t18 Inv-loop μ-loop
 sub-t18 c = omega (arith, c .before .before .before .before .before .pre .some)
@@ -34,212 +44,84 @@ same-length-3 : tie.Need-same-length-3 Inv-loop μ-loop
 same-length-3 c = c .before .before .before .loop .inv .works
 
 returns : tie.Need-returns Inv-loop μ-loop
-returns c = laid-due _ _ _ _ _ _ _ _ _ _ _ _ _ (c .before .before .before .loop .inv) (c .before .if1 .taken)
+returns c = laid-due (c .before .before .before .loop .inv) (c .before .if1 .taken)
 
 sub-s : tie.Need-sub-s Inv-loop μ-loop
 sub-s c = omega (arith, c .before .if1 .left)
 
 turn-requires : tie.Need-turn-requires Inv-loop μ-loop
 turn-requires c κs =
-    let at4 = c .before .before .before .before in
-    let at6 = at4 .before .before in
-    going-ready _ _ _ _ _ _ _ _ _ _ _ _ _ (at6 .loop .inv) (at4 .if1 .left)
+    let tested = c .before .before .before .before in
+    going-ready (tested .before .before .loop .inv) (tested .if1 .left)
 
 enum-known-on : tie.Need-enum-known-on Inv-loop μ-loop
 enum-known-on c = search needs
 
 loop-less : tie.Need-loop-less Inv-loop μ-loop
 loop-less c =
-    let at9 = c .before .before .before .before .before .before .before .before .before in
-    let at14 = at9 .before .before .before .before .before in
-    let at16 = at14 .before .before in
-    going-less
-    _
-    _
-    _
-    _
-    _
-    _
-    _
-    _
-    _
-    _
-    _
-    _
-    _
-    (at16 .loop .inv)
-    (at14 .if1 .left)
-    _
-    _
-    _
-    _
-    (at9 .turn .ensures)
-    (at9 .turn .kept .1 .1 .0)
-    (at9 .turn .kept .1 .1 .1 .0)
-    (at9 .turn .kept .1 .1 .1 .1 .0)
-    _
-    _
-    (c .before .on .given .1)
+    let turned = turn-of (c .before .before .before) in
+    let tested = test-of turned in
+    let kept = turned .turn .kept .1 .1 in
+    going-less (tested .before .before .loop .inv) (tested .if1 .left) (turned .turn .ensures) (kept .0) (kept .1 .0) (kept .1 .1 .0) (c .before .on .given .1)
 
 loop-again : tie.Need-loop-again Inv-loop μ-loop
 loop-again c =
-    let at9 = c .before .before .before .before .before .before .before .before .before in
-    let at14 = at9 .before .before .before .before .before in
-    let at16 = at14 .before .before in
-    going-on
-    _
-    _
-    _
-    _
-    _
-    _
-    _
-    _
-    _
-    _
-    _
-    _
-    _
-    (at16 .loop .inv)
-    (at14 .if1 .left)
-    _
-    _
-    _
-    _
-    (at9 .turn .ensures)
-    (at9 .turn .kept .1 .1 .0)
-    (at9 .turn .kept .1 .1 .1 .0)
-    (at9 .turn .kept .1 .1 .1 .1 .0)
-    _
-    _
-    (c .before .on .given .1)
+    let turned = turn-of (c .before .before .before) in
+    let tested = test-of turned in
+    let kept = turned .turn .kept .1 .1 in
+    going-on (tested .before .before .loop .inv) (tested .if1 .left) (turned .turn .ensures) (kept .0) (kept .1 .0) (kept .1 .1 .0) (c .before .on .given .1)
 
 enum-known-on-2 : tie.Need-enum-known-on-2 Inv-loop μ-loop
 enum-known-on-2 c = search needs
 
-cast-t32 : tie.Need-cast-t32 Inv-loop μ-loop
-cast-t32 c =
-    let at2 = c .before .before in
-    let at10 = at2 .before .before .before .before .before .before .before .before in
-    let at15 = at10 .before .before .before .before .before in
-    let at17 = at15 .before .before in
-    omega
-    (arith, done-small _ _ _ _ _ _ _ _ _ _ _ _ _ (at17 .loop .inv) (at15 .if1 .left) _ _ _ _ (at10 .turn .ensures) (at10 .turn .kept .1 .1 .0) (at10 .turn .kept .1 .1 .1 .0) (at10 .turn .kept .1 .1 .1 .1 .0) _ (at2 .on2 .given .1) .0)
-
 cast-t33 : tie.Need-cast-t33 Inv-loop μ-loop
 cast-t33 c =
-    let at3 = c .before .before .before in
-    let at11 = at3 .before .before .before .before .before .before .before .before in
-    let at16 = at11 .before .before .before .before .before in
-    let at18 = at16 .before .before in
-    omega
-    (arith, done-small _ _ _ _ _ _ _ _ _ _ _ _ _ (at18 .loop .inv) (at16 .if1 .left) _ _ _ _ (at11 .turn .ensures) (at11 .turn .kept .1 .1 .0) (at11 .turn .kept .1 .1 .1 .0) (at11 .turn .kept .1 .1 .1 .1 .0) _ (at3 .on2 .given .1) .1)
+    let turned = turn-of (c .before .before .before .before) in
+    let tested = test-of turned in
+    let kept = turned .turn .kept .1 .1 in
+    omega (arith, done-small (tested .before .before .loop .inv) (tested .if1 .left) (turned .turn .ensures) (kept .0) (kept .1 .0) (kept .1 .1 .0) (c .before .before .on2 .given .1) .0)
+
+cast-t34 : tie.Need-cast-t34 Inv-loop μ-loop
+cast-t34 c =
+    let turned = turn-of (c .before .before .before .before .before) in
+    let tested = test-of turned in
+    let kept = turned .turn .kept .1 .1 in
+    omega (arith, done-small (tested .before .before .loop .inv) (tested .if1 .left) (turned .turn .ensures) (kept .0) (kept .1 .0) (kept .1 .1 .0) (c .before .before .before .on2 .given .1) .1)
 
 same-length-4 : tie.Need-same-length-4 Inv-loop μ-loop
-same-length-4 c =
-    let at11 = c .before .before .before .before .before .before .before .before .before .before .before in
-    let at18 = at11 .before .before .before .before .before .before .before in
-    at11 .turn .kept .1 .1 .0 ∙ at18 .loop .inv .outs
+same-length-4 c = let turned = turn-of (c .before .before .before .before .before) in turned .turn .kept .1 .1 .0 ∙ test-of turned .before .before .loop .inv .outs
 
 same-length-5 : tie.Need-same-length-5 Inv-loop μ-loop
-same-length-5 c =
-    let at11 = c .before .before .before .before .before .before .before .before .before .before .before in
-    let at18 = at11 .before .before .before .before .before .before .before in
-    at11 .turn .kept .1 .1 .1 .0 ∙ at18 .loop .inv .evs
+same-length-5 c = let turned = turn-of (c .before .before .before .before .before) in turned .turn .kept .1 .1 .1 .0 ∙ test-of turned .before .before .loop .inv .evs
 
 same-length-6 : tie.Need-same-length-6 Inv-loop μ-loop
-same-length-6 c =
-    let at11 = c .before .before .before .before .before .before .before .before .before .before .before in
-    let at18 = at11 .before .before .before .before .before .before .before in
-    at11 .turn .kept .1 .1 .1 .1 .0 ∙ at18 .loop .inv .works
+same-length-6 c = let turned = turn-of (c .before .before .before .before .before) in turned .turn .kept .1 .1 .1 .1 .0 ∙ test-of turned .before .before .loop .inv .works
 
 returns-2 : tie.Need-returns-2 Inv-loop μ-loop
 returns-2 c =
-    let at3 = c .before .before .before in
-    let at11 = at3 .before .before .before .before .before .before .before .before in
-    let at16 = at11 .before .before .before .before .before in
-    let at18 = at16 .before .before in
-    laid-done
-    _
-    _
-    _
-    _
-    _
-    _
-    _
-    _
-    _
-    _
-    _
-    _
-    _
-    (at18 .loop .inv)
-    (at16 .if1 .left)
-    _
-    _
-    _
-    _
-    (at11 .turn .ensures)
-    (at11 .turn .kept .1 .1 .0)
-    (at11 .turn .kept .1 .1 .1 .0)
-    (at11 .turn .kept .1 .1 .1 .1 .0)
-    _
-    (at3 .on2 .given .1)
+    let turned = turn-of (c .before .before .before .before .before) in
+    let tested = test-of turned in
+    let kept = turned .turn .kept .1 .1 in
+    laid-done (tested .before .before .loop .inv) (tested .if1 .left) (turned .turn .ensures) (kept .0) (kept .1 .0) (kept .1 .1 .0) (c .before .before .before .on2 .given .1)
 
 enum-known-answer : tie.Need-enum-known-answer Inv-loop μ-loop
 enum-known-answer c = search needs
 
 same-length-7 : tie.Need-same-length-7 Inv-loop μ-loop
-same-length-7 c =
-    let at9 = c .before .before .before .before .before .before .before .before .before in
-    let at16 = at9 .before .before .before .before .before .before .before in
-    at9 .turn .kept .1 .1 .0 ∙ at16 .loop .inv .outs
+same-length-7 c = let turned = turn-of (c .before .before .before) in turned .turn .kept .1 .1 .0 ∙ test-of turned .before .before .loop .inv .outs
 
 same-length-8 : tie.Need-same-length-8 Inv-loop μ-loop
-same-length-8 c =
-    let at9 = c .before .before .before .before .before .before .before .before .before in
-    let at16 = at9 .before .before .before .before .before .before .before in
-    at9 .turn .kept .1 .1 .1 .0 ∙ at16 .loop .inv .evs
+same-length-8 c = let turned = turn-of (c .before .before .before) in turned .turn .kept .1 .1 .1 .0 ∙ test-of turned .before .before .loop .inv .evs
 
 same-length-9 : tie.Need-same-length-9 Inv-loop μ-loop
-same-length-9 c =
-    let at9 = c .before .before .before .before .before .before .before .before .before in
-    let at16 = at9 .before .before .before .before .before .before .before in
-    at9 .turn .kept .1 .1 .1 .1 .0 ∙ at16 .loop .inv .works
+same-length-9 c = let turned = turn-of (c .before .before .before) in turned .turn .kept .1 .1 .1 .1 .0 ∙ test-of turned .before .before .loop .inv .works
 
 returns-3 : tie.Need-returns-3 Inv-loop μ-loop
 returns-3 c =
-    let at9 = c .before .before .before .before .before .before .before .before .before in
-    let at14 = at9 .before .before .before .before .before in
-    let at16 = at14 .before .before in
-    laid-stop
-    _
-    _
-    _
-    _
-    _
-    _
-    _
-    _
-    _
-    _
-    _
-    _
-    _
-    (at16 .loop .inv)
-    (at14 .if1 .left)
-    _
-    _
-    _
-    _
-    (at9 .turn .ensures)
-    (at9 .turn .kept .1 .1 .0)
-    (at9 .turn .kept .1 .1 .1 .0)
-    (at9 .turn .kept .1 .1 .1 .1 .0)
-    _
-    _
-    _
-    (c .before .answer .given .1)
+    let turned = turn-of (c .before .before .before) in
+    let tested = test-of turned in
+    let kept = turned .turn .kept .1 .1 in
+    laid-stop (tested .before .before .loop .inv) (tested .if1 .left) (turned .turn .ensures) (kept .0) (kept .1 .0) (kept .1 .1 .0) (c .before .answer .given .1)
 
 pub best-spec : {M : Type 1} → statement M
 best-spec =
@@ -259,8 +141,8 @@ best-spec =
     loop-less
     loop-again
     enum-known-on-2
-    cast-t32
     cast-t33
+    cast-t34
     same-length-4
     same-length-5
     same-length-6

@@ -1,34 +1,25 @@
--- `render::take_up` meets its contract: a node on top by `rise-node`, else by what takes up ends.
+-- `render::take_up` meets its contract: a node on top is due, by `rise-node`; else it is what `take_up_ends` promises.
 -- Assumes nothing.
-use borrow.Author.Needs.{needs}
+use mathlib.Core.Path.{sym, _∙_}
 use Rattle.render.proofs.Rising.{rise-start, rise-node}
+use borrow.Author.Needs.{needs}
 use Rattle.render.proofs.take_up.Statement.{statement}
 use Rattle.render.proofs.take_up.Tie as tie
 
 sub-d : tie.Need-sub-d
 sub-d c = search needs
 
-mul-if2 : tie.Need-mul-if2
-mul-if2 c = search needs
+tag-at-requires : tie.Need-tag-at-requires
+tag-at-requires c κs = search needs
 
-add-if2 : tie.Need-add-if2
-add-if2 c = search needs
-
-mul-if2-2 : tie.Need-mul-if2-2
-mul-if2-2 c = search needs
-
-shared-slice-read-if2 : tie.Need-shared-slice-read-if2
-shared-slice-read-if2 c = search needs
-
-hand-at-requires : tie.Need-hand-at-requires
-hand-at-requires c κs = search needs
+due-at-requires : tie.Need-due-at-requires
+due-at-requires c κs = search needs
 
 returns : tie.Need-returns
 returns c =
-    let at4 = c .before .before .before .before in
-    let at8 = at4 .before .before .before .before in
-    let s = at8 in
-    rise-node _ _ _ _ _ (rise-start _ _ _ (s .pre)) (at4 .if1 .taken) _ (c .before .if2 .taken) (c .hand-at .ensures)
+    let tagged = c .before .before in
+    let tested = tagged .before .before in
+    rise-node (rise-start _ _ _ (tested .before .before .before .before .pre)) (tested .if1 .taken) _ (sym (tagged .tag-at .ensures) ∙ c .before .if2 .taken) (c .due-at .ensures)
 
 take-up-ends-requires : tie.Need-take-up-ends-requires
 take-up-ends-requires c κs = search needs
@@ -44,11 +35,8 @@ take-up-spec =
     tie.close
     (tie.spec
     sub-d
-    mul-if2
-    add-if2
-    mul-if2-2
-    shared-slice-read-if2
-    hand-at-requires
+    tag-at-requires
+    due-at-requires
     returns
     take-up-ends-requires
     same-length

@@ -4,7 +4,16 @@ use Rattle.render.proofs.Turns.{turn-go, turn-stop, turn-done, done-rea
 use borrow.Author.Needs.{needs}
 use mathlib.Core.Path.{_∙_}
 use Rattle.render.proofs.turn.Statement.{statement}
+use Rattle.render.proofs.turn.Reads as reads
+use Rattle.render.proofs.turn.Lts as lts
 use Rattle.render.proofs.turn.Tie as tie
+
+-- the visit, from where its answer is taken apart; the function's start, from the visit
+abbrev visit-of : {claims : lts.Claims} → lts.After-slice-known6 claims reads.Pre reads.Post → lts.After-visit claims reads.Pre reads.Post
+visit-of answered = answered .before .before .before .before .before .before
+
+abbrev start : {claims : lts.Claims} → lts.After-visit claims reads.Pre reads.Post → lts.Start claims reads.Pre reads.Post
+start visited = visited .before .before .before .before .before .before .before .before .before
 
 visit-requires : tie.Need-visit-requires
 visit-requires c κs = search needs
@@ -17,69 +26,60 @@ enum-known-on-2 c = search needs
 
 take-up-requires : tie.Need-take-up-requires
 take-up-requires c κs =
-    let at3 = c .before .before .before in
-    let at11 = at3 .before .before .before .before .before .before .before .before in
-    let at20 = at11 .before .before .before .before .before .before .before .before .before in
-    let s = at20 in
-    let v = at11 .visit in
-    done-ready _ _ _ _ _ _ _ _ (s .pre) _ _ _ _ (v .ensures) _ (at3 .on2 .given .1) (v .kept .1 .1 .1 .0) (v .kept .1 .1 .0) (v .kept .1 .1 .1 .1 .0)
+    let bound = c .before .before .before in
+    let visited = visit-of (bound .before .before) in
+    let kept = visited .visit .kept .1 .1 in
+    done-ready (start visited .pre) (visited .visit .ensures) (bound .on2 .given .1) (kept .1 .0) (kept .0) (kept .1 .1 .0)
 
 enum-known-answer : tie.Need-enum-known-answer
 enum-known-answer c = search needs
 
 same-length : tie.Need-same-length
-same-length c = c .before .before .before .before .before .before .before .before .before .visit .kept .1 .1 .0
+same-length c = visit-of (c .before .before .before) .visit .kept .1 .1 .0
 
 same-length-2 : tie.Need-same-length-2
-same-length-2 c = c .before .before .before .before .before .before .before .before .before .visit .kept .1 .1 .1 .0
+same-length-2 c = visit-of (c .before .before .before) .visit .kept .1 .1 .1 .0
 
 same-length-3 : tie.Need-same-length-3
-same-length-3 c = c .before .before .before .before .before .before .before .before .before .visit .kept .1 .1 .1 .1 .0
+same-length-3 c = visit-of (c .before .before .before) .visit .kept .1 .1 .1 .1 .0
 
 returns : tie.Need-returns
 returns c =
-    let at9 = c .before .before .before .before .before .before .before .before .before in
-    let at18 = at9 .before .before .before .before .before .before .before .before .before in
-    let s = at18 in
-    turn-go _ _ _ _ _ _ _ _ (s .pre) _ _ _ _ (at9 .visit .ensures) _ _ (c .before .on .given .1)
+    let visited = visit-of (c .before .before .before) in
+    turn-go (start visited .pre) (visited .visit .ensures) (c .before .on .given .1)
 
 same-length-4 : tie.Need-same-length-4
-same-length-4 c = c .before .before .before .before .before .before .before .before .before .before .before .before .before .before .visit .kept .1 .1 .0
+same-length-4 c = visit-of (c .before .before .before .before .before .before .before .before) .visit .kept .1 .1 .0
 
 same-length-5 : tie.Need-same-length-5
 same-length-5 c =
-    let at2 = c .before .before in
-    let at14 = at2 .before .before .before .before .before .before .before .before .before .before .before .before in
-    at2 .take-up .kept .0 ∙ at14 .visit .kept .1 .1 .1 .0
+    let taken-up = c .before .before in
+    taken-up .take-up .kept .0 ∙ visit-of (taken-up .before .before .before .before .before .before) .visit .kept .1 .1 .1 .0
 
 same-length-6 : tie.Need-same-length-6
-same-length-6 c = c .before .before .before .before .before .before .before .before .before .before .before .before .before .before .visit .kept .1 .1 .1 .1 .0
+same-length-6 c = visit-of (c .before .before .before .before .before .before .before .before) .visit .kept .1 .1 .1 .1 .0
 
 returns-2 : tie.Need-returns-2
 returns-2 c =
-    let at2 = c .before .before in
-    let at6 = at2 .before .before .before .before in
-    let at14 = at6 .before .before .before .before .before .before .before .before in
-    let at23 = at14 .before .before .before .before .before .before .before .before .before in
-    let s = at23 in
-    let v = at14 .visit in
-    turn-done _ _ _ _ _ _ _ _ (s .pre) _ _ _ _ (v .ensures) _ (at6 .on2 .given .1) (v .kept .1 .1 .1 .0) _ _ (at2 .take-up .ensures)
+    let taken-up = c .before .before in
+    let bound = taken-up .before .before .before .before in
+    let visited = visit-of (bound .before .before) in
+    let kept = visited .visit .kept .1 .1 in
+    turn-done (start visited .pre) (visited .visit .ensures) (bound .on2 .given .1) (kept .1 .0) (kept .0) (taken-up .take-up .ensures)
 
 same-length-7 : tie.Need-same-length-7
-same-length-7 c = c .before .before .before .before .before .before .before .before .before .visit .kept .1 .1 .0
+same-length-7 c = visit-of (c .before .before .before) .visit .kept .1 .1 .0
 
 same-length-8 : tie.Need-same-length-8
-same-length-8 c = c .before .before .before .before .before .before .before .before .before .visit .kept .1 .1 .1 .0
+same-length-8 c = visit-of (c .before .before .before) .visit .kept .1 .1 .1 .0
 
 same-length-9 : tie.Need-same-length-9
-same-length-9 c = c .before .before .before .before .before .before .before .before .before .visit .kept .1 .1 .1 .1 .0
+same-length-9 c = visit-of (c .before .before .before) .visit .kept .1 .1 .1 .1 .0
 
 returns-3 : tie.Need-returns-3
 returns-3 c =
-    let at9 = c .before .before .before .before .before .before .before .before .before in
-    let at18 = at9 .before .before .before .before .before .before .before .before .before in
-    let s = at18 in
-    turn-stop _ _ _ _ _ _ _ _ (s .pre) _ _ _ _ (at9 .visit .ensures) _ _ _ (c .before .answer .given .1)
+    let visited = visit-of (c .before .before .before) in
+    turn-stop (start visited .pre) (visited .visit .ensures) (c .before .answer .given .1)
 
 pub turn-spec : {M : Type 1} → statement M
 turn-spec =

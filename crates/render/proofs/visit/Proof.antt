@@ -1,12 +1,18 @@
 -- `render::visit` meets its contract: an arm for each kind, by the law that Visits.antt has for it.
 -- Assumes nothing.
 use Rattle.table.proofs.Nodes.{node-fail}
-use Rattle.render.proofs.Visits.{depth-small, group-fits, nest-fits, nest-held, text-fits, visit-nil, visit-kept, visit-broken, visit-flat, visit-nest, visit-align, visit-wrote, visit-annotated, visit-fail}
+use Rattle.render.proofs.Visits.{depth-small, area-enough, used-small, events-small, group-fits, nest-fits, nest-held, text-fits, visit-nil, visit-kept, visit-broken, visit-flat, visit-nest, visit-align, visit-wrote, visit-annotated, visit-fail}
 use native.Mathlib.Omega.{arith}
 use mathlib.Core.Path.{refl}
 use borrow.Author.Needs.{needs}
 use Rattle.render.proofs.visit.Statement.{statement}
+use Rattle.render.proofs.visit.Reads as reads
+use Rattle.render.proofs.visit.Lts as lts
 use Rattle.render.proofs.visit.Tie as tie
+
+-- the function's start, from where its match is
+abbrev start : {claims : lts.Claims} → lts.After-mode claims reads.Pre reads.Post → lts.Start claims reads.Pre reads.Post
+start at-match = at-match .before .before .before .before .before .before .before .before .before .before
 
 cast-at : tie.Need-cast-at
 cast-at c = search needs
@@ -40,15 +46,11 @@ shared-slice-read-lay-append c = search needs
 
 lay-append-requires : tie.Need-lay-append-requires
 lay-append-requires c κs =
-    let at13 = c .before .before .before .before .before .before .before .before .before .before .before .before .before in
-    let s = at13 in
-    (depth-small _ _ _ _ _ _ _ (s .args .hand) (s .pre), omega (arith, s .pre .start .area))
+    let ready = start (c .before .before .before) .pre in
+    (depth-small ready, area-enough ready)
 
 lay-group-requires : tie.Need-lay-group-requires
-lay-group-requires c κs =
-    let at12 = c .before .before .before .before .before .before .before .before .before .before .before .before in
-    let s = at12 in
-    group-fits _ _ _ _ _ _ _ (s .args .hand) (s .pre) (c .before .match .keys3)
+lay-group-requires c κs = group-fits (start (c .before .before) .pre) (c .before .match .keys3)
 
 child-of-requires : tie.Need-child-of-requires
 child-of-requires c κs = search needs
@@ -85,23 +87,18 @@ shared-slice-read-nest-by-2 c = search needs
 
 nest-by-requires : tie.Need-nest-by-requires
 nest-by-requires c κs =
-    let at2 = c .before .before in
-    let at13 = at2 .before .before .before .before .before .before .before .before .before .before .before in
-    let s = at13 in
-    nest-fits _ _ _ _ _ _ _ (s .args .hand) (s .pre) (at2 .match .keys5)
+    let matched = c .before .before in
+    nest-fits (start (matched .before) .pre) (matched .match .keys5)
 
 nests-down-requires : tie.Need-nests-down-requires
 nests-down-requires c κs =
-    let at3 = c .before .before .before in
-    let at14 = at3 .before .before .before .before .before .before .before .before .before .before .before in
-    let s = at14 in
-    nest-held _ _ _ _ _ _ _ _ (s .pre) _ (at3 .match .keys5) (c .nest-by .ensures)
+    let matched = c .before .before .before in
+    nest-held (start (matched .before) .pre) _ (matched .match .keys5) (c .nest-by .ensures)
 
 lay-hardline-requires : tie.Need-lay-hardline-requires
 lay-hardline-requires c κs =
-    let at13 = c .before .before .before .before .before .before .before .before .before .before .before .before .before in
-    let s = at13 in
-    (omega (arith, depth-small _ _ _ _ _ _ _ (s .args .hand) (s .pre)), omega (arith, s .pre .start .area), s .pre .used, s .pre .start .room)
+    let ready = start (c .before .before .before) .pre in
+    ((omega (arith, depth-small ready), area-enough ready), (ready .within .bytes, ready .start .room))
 
 add-lay-text : tie.Need-add-lay-text
 add-lay-text c = search needs
@@ -123,10 +120,8 @@ shared-slice-read-lay-text-2 c = search needs
 
 lay-text-requires : tie.Need-lay-text-requires
 lay-text-requires c κs =
-    let at3 = c .before .before .before in
-    let at14 = at3 .before .before .before .before .before .before .before .before .before .before .before in
-    let s = at14 in
-    text-fits _ _ _ _ _ _ _ (s .args .hand) (s .pre) (at3 .match .keys7)
+    let matched = c .before .before .before in
+    text-fits (start (matched .before) .pre) (matched .match .keys7)
 
 add-lay-annotated : tie.Need-add-lay-annotated
 add-lay-annotated c = search needs
@@ -139,9 +134,8 @@ shared-slice-read-lay-annotated c = search needs
 
 lay-annotated-requires : tie.Need-lay-annotated-requires
 lay-annotated-requires c κs =
-    let at14 = c .before .before .before .before .before .before .before .before .before .before .before .before .before .before in
-    let s = at14 in
-    (depth-small _ _ _ _ _ _ _ (s .args .hand) (s .pre), omega (arith, s .pre .start .area), s .pre .marks, s .pre .start .slots, omega (arith, s .pre .used, s .pre .start .room))
+    let ready = start (c .before .before .before .before) .pre in
+    ((depth-small ready, area-enough ready), (ready .within .events, ready .start .slots, used-small ready))
 
 add-lay-union : tie.Need-add-lay-union
 add-lay-union c = search needs
@@ -154,69 +148,54 @@ shared-slice-read-lay-union c = search needs
 
 lay-union-requires : tie.Need-lay-union-requires
 lay-union-requires c κs =
-    let at13 = c .before .before .before .before .before .before .before .before .before .before .before .before .before in
-    let s = at13 in
-    (depth-small _ _ _ _ _ _ _ (s .args .hand) (s .pre), omega (arith, s .pre .start .area), omega (arith, s .pre .used, s .pre .start .room), omega (arith, s .pre .marks, s .pre .start .slots))
+    let ready = start (c .before .before .before) .pre in
+    (depth-small ready, area-enough ready, used-small ready, events-small ready)
 
 to-indent-requires : tie.Need-to-indent-requires
 to-indent-requires c κs = search needs
 
 lay-fail-requires : tie.Need-lay-fail-requires
 lay-fail-requires c κs =
-    let at12 = c .before .before .before .before .before .before .before .before .before .before .before .before in
-    let s = at12 in
-    (omega (arith, depth-small _ _ _ _ _ _ _ (s .args .hand) (s .pre)), omega (arith, s .pre .start .area))
+    let ready = start (c .before .before) .pre in
+    (omega (arith, depth-small ready), area-enough ready)
 
 returns : tie.Need-returns
-returns c =
-    let at11 = c .before .before .before .before .before .before .before .before .before .before .before in
-    let s = at11 in
-    visit-nil _ _ _ _ _ _ _ _ (s .pre) (c .match .keys1)
+returns c = visit-nil (start (c .before) .pre) (c .match .keys1)
 
 same-length : tie.Need-same-length
 same-length c = search needs
 
 returns-2 : tie.Need-returns-2
 returns-2 c =
-    let at2 = c .before .before in
-    let at5 = at2 .before .before .before in
-    let at16 = at5 .before .before .before .before .before .before .before .before .before .before .before in
-    let s = at16 in
-    visit-kept _ _ _ _ _ _ _ _ (s .pre) 1 _ _ _ (at5 .match .keys2) (at2 .lay-append .ensures) (λ limit. refl)
+    let laid = c .before .before in
+    let matched = laid .before .before .before in
+    visit-kept (start (matched .before) .pre) 1 (matched .match .keys2) (laid .lay-append .ensures) (λ limit. refl)
 
 same-length-2 : tie.Need-same-length-2
 same-length-2 c = search needs
 
 returns-3 : tie.Need-returns-3
 returns-3 c =
-    let at2 = c .before .before in
-    let at4 = at2 .before .before in
-    let at15 = at4 .before .before .before .before .before .before .before .before .before .before .before in
-    let s = at15 in
-    visit-kept _ _ _ _ _ _ _ _ (s .pre) 2 _ _ _ (at4 .match .keys3) (at2 .lay-group .ensures) (λ limit. refl)
+    let laid = c .before .before in
+    let matched = laid .before .before in
+    visit-kept (start (matched .before) .pre) 2 (matched .match .keys3) (laid .lay-group .ensures) (λ limit. refl)
 
 returns-4 : tie.Need-returns-4
 returns-4 c =
-    let at3 = c .before .before .before in
-    let at14 = at3 .before .before .before .before .before .before .before .before .before .before .before in
-    let s = at14 in
-    visit-broken _ _ _ _ _ _ _ _ (s .pre) _ (at3 .match .keys4) (c .before .if1 .taken) (c .child-of .ensures)
+    let matched = c .before .before .before in
+    visit-broken (start (matched .before) .pre) _ (matched .match .keys4) (c .before .if1 .taken) (c .child-of .ensures)
 
 returns-5 : tie.Need-returns-5
 returns-5 c =
-    let at2 = c .before .before in
-    let at4 = at2 .before .before in
-    let at15 = at4 .before .before .before .before .before .before .before .before .before .before .before in
-    let s = at15 in
-    visit-flat _ _ _ _ _ _ _ _ (s .pre) _ (at4 .match .keys4) (at2 .if1 .left) (c .child-of2 .ensures)
+    let tested = c .before .before in
+    let matched = tested .before .before in
+    visit-flat (start (matched .before) .pre) _ (matched .match .keys4) (tested .if1 .left) (c .child-of2 .ensures)
 
 returns-6 : tie.Need-returns-6
 returns-6 c =
-    let at2 = c .before .before in
-    let at5 = at2 .before .before .before in
-    let at16 = at5 .before .before .before .before .before .before .before .before .before .before .before in
-    let s = at16 in
-    visit-nest _ _ _ _ _ _ _ _ (s .pre) _ (at5 .match .keys5) (at2 .nest-by .ensures) _ (c .before .nests-down .ensures)
+    let nested = c .before .before in
+    let matched = nested .before .before .before in
+    visit-nest (start (matched .before) .pre) _ (matched .match .keys5) (nested .nest-by .ensures) _ (c .before .nests-down .ensures)
 
 same-length-3 : tie.Need-same-length-3
 same-length-3 c = search needs
@@ -226,22 +205,18 @@ same-length-4 c = search needs
 
 returns-7 : tie.Need-returns-7
 returns-7 c =
-    let at2 = c .before .before in
-    let at5 = at2 .before .before .before in
-    let at16 = at5 .before .before .before .before .before .before .before .before .before .before .before in
-    let s = at16 in
-    visit-wrote _ _ _ _ _ _ _ _ (s .pre) 5 _ _ _ (at5 .match .keys6) (at2 .lay-hardline .ensures) (λ limit. refl)
+    let laid = c .before .before in
+    let matched = laid .before .before .before in
+    visit-wrote (start (matched .before) .pre) 5 (matched .match .keys6) (laid .lay-hardline .ensures) (λ limit. refl)
 
 same-length-5 : tie.Need-same-length-5
 same-length-5 c = search needs
 
 returns-8 : tie.Need-returns-8
 returns-8 c =
-    let at2 = c .before .before in
-    let at6 = at2 .before .before .before .before in
-    let at17 = at6 .before .before .before .before .before .before .before .before .before .before .before in
-    let s = at17 in
-    visit-wrote _ _ _ _ _ _ _ _ (s .pre) 6 _ _ _ (at6 .match .keys7) (at2 .lay-text .ensures) (λ limit. refl)
+    let laid = c .before .before in
+    let matched = laid .before .before .before .before in
+    visit-wrote (start (matched .before) .pre) 6 (matched .match .keys7) (laid .lay-text .ensures) (λ limit. refl)
 
 same-length-6 : tie.Need-same-length-6
 same-length-6 c = search needs
@@ -251,37 +226,44 @@ same-length-7 c = search needs
 
 returns-9 : tie.Need-returns-9
 returns-9 c =
-    let at4 = c .before .before .before .before in
-    let at8 = at4 .before .before .before .before in
-    let at19 = at8 .before .before .before .before .before .before .before .before .before .before .before in
-    let s = at19 in
-    visit-annotated _ _ _ _ _ _ _ _ (s .pre) _ _ _ _ (at8 .match .keys8) (at4 .lay-annotated .ensures) (λ limit. refl)
+    let laid = c .before .before .before .before in
+    let matched = laid .before .before .before .before in
+    visit-annotated (start (matched .before) .pre) (matched .match .keys8) (laid .lay-annotated .ensures) (λ limit. refl)
 
 same-length-8 : tie.Need-same-length-8
 same-length-8 c = search needs
 
 returns-10 : tie.Need-returns-10
 returns-10 c =
-    let at2 = c .before .before in
-    let at5 = at2 .before .before .before in
-    let at16 = at5 .before .before .before .before .before .before .before .before .before .before .before in
-    let s = at16 in
-    visit-kept _ _ _ _ _ _ _ _ (s .pre) 8 _ _ _ (at5 .match .keys9) (at2 .lay-union .ensures) (λ limit. refl)
+    let laid = c .before .before in
+    let matched = laid .before .before .before in
+    visit-kept (start (matched .before) .pre) 8 (matched .match .keys9) (laid .lay-union .ensures) (λ limit. refl)
 
 returns-11 : tie.Need-returns-11
 returns-11 c =
-    let at2 = c .before .before in
-    let at13 = at2 .before .before .before .before .before .before .before .before .before .before .before in
-    let s = at13 in
-    visit-align _ _ _ _ _ _ _ _ (s .pre) _ (at2 .match .keys10) (c .to-indent .ensures)
+    let matched = c .before .before in
+    visit-align (start (matched .before) .pre) _ (matched .match .keys10) (c .to-indent .ensures)
 
 same-length-9 : tie.Need-same-length-9
 same-length-9 c = search needs
 
 returns-12 : tie.Need-returns-12
-returns-12 c = let s = c .before .before .before .before .before .before .before .before .before .before .before .before .before in
-    let h = c .before .before .match .rest in
-    visit-fail _ _ _ _ _ _ _ _ (s .pre) _ (node-fail _ _ (h .0 .0 .0 .0 .0 .0 .0 .0 .0 .1) (h .0 .0 .0 .0 .0 .0 .0 .0 .1) (h .0 .0 .0 .0 .0 .0 .0 .1) (h .0 .0 .0 .0 .0 .0 .1) (h .0 .0 .0 .0 .0 .1) (h .0 .0 .0 .0 .1) (h .0 .0 .0 .1) (h .0 .0 .1) (h .0 .1) (h .1)) (c .lay-fail .ensures)
+returns-12 c =
+    let matched = c .before .before in
+    let h = matched .match .rest in
+    visit-fail (start (matched .before) .pre)
+    (node-fail _ _
+    (h .0 .0 .0 .0 .0 .0 .0 .0 .0 .1)
+    (h .0 .0 .0 .0 .0 .0 .0 .0 .1)
+    (h .0 .0 .0 .0 .0 .0 .0 .1)
+    (h .0 .0 .0 .0 .0 .0 .1)
+    (h .0 .0 .0 .0 .0 .1)
+    (h .0 .0 .0 .0 .1)
+    (h .0 .0 .0 .1)
+    (h .0 .0 .1)
+    (h .0 .1)
+    (h .1))
+    (c .lay-fail .ensures)
 
 pub visit-spec : {M : Type 1} → statement M
 visit-spec =
