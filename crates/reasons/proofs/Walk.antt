@@ -1,16 +1,17 @@
 -- The walk over what waits: it stays within a bound of the width, and reads on from the next waiting node.
+--     part-is, room-of, filled             the summaries stand past what waits, which is as it was
 --     under                                the walk down a node comes through at most at the bound
 --     walk-asked                           what the walk down a node asks
 --     walk-nothing, walk-found, walk-on    from one waiting node to the next
 --     child-found, child-through           the group's child
---     filled                               the summaries stand past what waits
 -- Assumes nothing.
 use mathlib.Core.Path.{_≡_, refl, sym, ap, subst, _∙_}
 use Prim.Native.Nat.{ℕ, suc, _+_, _-_, _*_, _≤_, _<_}
 use native.Mathlib.Omega.{arith}
 use mathlib.Core.Bool.{Bool, true, false}
-use mathlib.Core.List.{List, [], _∷_, _++_}
-use lib.ListN.{length, take, drop, getD, length-drop}
+use mathlib.Core.List.{List, [], _∷_, _++_, append-nil}
+use lib.ListN.{length, take, drop, getD, length-drop, drop-of-length-le, List·getD-append}
+use lib.Seq.{take-all, drop-at, getD-take, length-take-le}
 use lib.Dec.{leb}
 use borrow.Author.Tests.{leb-true}
 use Rattle.table.specs.Unfold.{Tree, nil, append, group, flatAlt, nest, hardline, text, annotated, union, align, fail, tree}
@@ -29,7 +30,41 @@ use Rattle.summary.specs.declared.Met.the-variants.{Through, Found}
 use Rattle.summary.specs.declared.Reason.{Reason}
 use Rattle.summary.specs.declared.Reason.the-variants.{NothingLeft}
 use Rattle.table.specs.declared.Column.{Column}
-use Rattle.reasons.specs.Promise.{memoFrom, Lent, Met, Asked, After, Because}
+use Rattle.reasons.specs.Promise.{memoFrom, Lent, Filled, Met, Asked, After, Because}
+
+-- ---- the summaries in the work area
+
+-- the part that is lent for them
+abbrev part : List ℕ → List ℕ
+part w = take (length w - memoFrom) (drop memoFrom w)
+
+pub part-is : (w : List ℕ) → part w ≡ drop memoFrom w
+part-is w = take-all (length w - memoFrom) (drop memoFrom w) (simp length-drop (omega arith))
+
+module _ {T w : List ℕ} {N : ℕ} (h : Lent T w N) where
+  pub room-of : summary.Room T (part w) N
+  room-of =
+      record {
+        valid = h .valid;
+        words = h .words;
+        small = h .small;
+        room = rw (part-is w) (simp length-drop (omega (arith, h .area, h .small)));
+      }
+
+  -- what came back in its place
+  pub filled : (ys : List ℕ) → length ys ≡ length (part w) → summary.Summarized T (part w) N ys
+      → Filled T w N (take memoFrom w ++ (ys ++ drop (length w - memoFrom) (drop memoFrom w)))
+  filled ys len s =
+      let none : drop (length w - memoFrom) (drop memoFrom w) ≡ [] = drop-of-length-le (drop memoFrom w) {i = length w - memoFrom} (simp length-drop (omega arith)) in
+      let front : length (take memoFrom w) ≡ memoFrom = length-take-le memoFrom w (omega (arith, h .area)) in
+      let back : drop memoFrom (take memoFrom w ++ (ys ++ drop (length w - memoFrom) (drop memoFrom w))) ≡ ys =
+      drop-at (take memoFrom w) _ memoFrom front ∙ ap (λ l. ys ++ l) none ∙ append-nil ys in
+      let kept : (i : ℕ) → i < memoFrom → getD (take memoFrom w ++ (ys ++ drop (length w - memoFrom) (drop memoFrom w))) i 0 ≡ getD w i 0 =
+      λ i less. List·getD-append (take memoFrom w) _ 0 i (omega (arith, front)) ∙ getD-take memoFrom w i 0 less in
+      record {
+        summed = λ i less f bytes. ap (λ l. getD l (summary.placeOf i f) 0) back ∙ s .summed i less f bytes;
+        same = record { entries = λ i less. kept i (omega arith); saved = λ i less. kept (4096 + i) (omega arith) };
+      }
 
 -- ---- the column stays within a bound of the width
 

@@ -1,7 +1,7 @@
--- `reasons::fill` meets its contract.
+-- `reasons::fill` meets its contract: the summaries stand past what waits.
 -- Assumes nothing.
 use borrow.Author.Needs.{needs}
-use native.Mathlib.Omega.{arith}
+use Rattle.reasons.proofs.Walk.{room-of, filled}
 use Rattle.reasons.proofs.fill.Statement.{statement}
 use Rattle.reasons.proofs.fill.Tie as tie
 
@@ -18,13 +18,15 @@ part-summarize-end : tie.Need-part-summarize-end
 part-summarize-end c = search needs
 
 summarize-requires : tie.Need-summarize-requires
-summarize-requires c κs = search needs
+summarize-requires c κs = room-of (c .before .before .before .pre)
 
 same-length : tie.Need-same-length
 same-length c = search needs
 
 returns : tie.Need-returns
-returns c = search needs
+returns c =
+    let called = c .before .before in
+    filled (called .before .before .before .before .pre) _ (called .summarize .kept .1 .0) (called .summarize .ensures)
 
 pub fill-spec : {M : Type 1} → statement M
 fill-spec =
