@@ -15,12 +15,13 @@ use Rattle.fitting.specs.Fitting.{Stepped}
 use Rattle.fitting.specs.declared.Step.the-variants.{Down, Done, Fits, Wide}
 use Rattle.table.proofs.Nodes.{node-is}
 
-module _ (table : List ℕ) (W n m k c : ℕ) (w : List ℕ) where
+module _ {table : List ℕ} {W n m k c : ℕ} {w : List ℕ} where
   pub look-nil : getD table (n * 4) 0 ≡ 0 → Stepped table W n m k c w (Done (record { 0 = c })) w
   look-nil e = record { same = same-refl 1024 _; said = λ is left. rw (node-is table n 0 e) }
 
-  pub look-append : (w′ : List ℕ) → getD table (n * 4) 0 ≡ 1 → FitPushed w k (getD table (n * 4 + 2) 0) w′ → Stepped table W n m k c w (Down (record { 0 = getD table (n * 4 + 1) 0 }) (k + 1)) w′
-  look-append w′ e p = record { same = p .same; said = λ is left. rw (node-is table n 1 e, p .items m) }
+  pub look-append : {w′ : List ℕ} → getD table (n * 4) 0 ≡ 1 → FitPushed w k (getD table (n * 4 + 2) 0) w′
+      → Stepped table W n m k c w (Down (record { 0 = getD table (n * 4 + 1) 0 }) (k + 1)) w′
+  look-append e p = record { same = p .same; said = λ is left. rw (node-is table n 1 e, p .items m) }
 
   -- a visit that goes on to the child x
   pub look-through : (x : ℕ) → ((is : List Item) (left : ℕ) → walk (item x (modeOf m) ∷ is) c ≡ look W (nodeAt table n) (modeOf m) is c left) → Stepped table W n m k c w (Down (record { 0 = x }) k) w
@@ -47,8 +48,9 @@ module _ (table : List ℕ) (W n m k c : ℕ) (w : List ℕ) where
   -- Group, Nest, Annotated and Align are walked through to their child
   pub look-one : OneOf (2 ∷ 4 ∷ 7 ∷ 9 ∷ []) (getD table (n * 4) 0) → Stepped table W n m k c w (Down (record { 0 = getD table (n * 4 + 1) 0 }) k) w
   look-one h =
-      ⊎-elim (λ e. look-through (getD table (n * 4 + 1) 0) (λ is left. rw (node-is table n 2 e)))
-      (⊎-elim (λ e. look-through (getD table (n * 4 + 1) 0) (λ is left. rw (node-is table n 4 e)))
-      (⊎-elim (λ e. look-through (getD table (n * 4 + 1) 0) (λ is left. rw (node-is table n 7 e)))
-      (λ e. look-through (getD table (n * 4 + 1) 0) (λ is left. rw (node-is table n 9 e)))))
+      let child = getD table (n * 4 + 1) 0 in
+      ⊎-elim (λ e. look-through child (λ is left. rw (node-is table n 2 e)))
+      (⊎-elim (λ e. look-through child (λ is left. rw (node-is table n 4 e)))
+      (⊎-elim (λ e. look-through child (λ is left. rw (node-is table n 7 e)))
+      (λ e. look-through child (λ is left. rw (node-is table n 9 e)))))
       h

@@ -43,7 +43,7 @@ returns c =
     walk-fitted (here .start .deep) (here .same) (walk-due (down .before .waiting .mode .0) (down .down .count) here (c .if1 .taken))
 
 sub-steps : tie.Need-sub-steps Inv-down μ-down Inv-waiting μ-waiting
-sub-steps c = omega (arith, c .if1 .left)
+sub-steps c = search needs
 
 look-requires : tie.Need-look-requires Inv-down μ-down Inv-waiting μ-waiting
 look-requires c κs =
@@ -54,7 +54,7 @@ enum-known-next : tie.Need-enum-known-next Inv-down μ-down Inv-waiting μ-waiti
 enum-known-next c = search needs
 
 down-less : tie.Need-down-less Inv-down μ-down Inv-waiting μ-waiting
-down-less c = omega (arith, c .before .before .before .before .before .before .before .if1 .left)
+down-less c = search needs
 
 down-again : tie.Need-down-again Inv-down μ-down Inv-waiting μ-waiting
 down-again c =
@@ -67,7 +67,7 @@ enum-known-end : tie.Need-enum-known-end Inv-down μ-down Inv-waiting μ-waiting
 enum-known-end c = search needs
 
 sub-count : tie.Need-sub-count Inv-down μ-down Inv-waiting μ-waiting
-sub-count c = omega (arith, c .if2 .left)
+sub-count c = search needs
 
 fit-node-requires : tie.Need-fit-node-requires Inv-down μ-down Inv-waiting μ-waiting
 fit-node-requires c κs =
@@ -80,7 +80,7 @@ fit-node-requires c κs =
     (omega (arith, count-small mode count here), area-kept mode count here (looked .look .kept .1 .0))
 
 down-less-2 : tie.Need-down-less-2 Inv-down μ-down Inv-waiting μ-waiting
-down-less-2 c = omega (arith, c .before .before .before .before .before .before .before .before .before .before .if1 .left)
+down-less-2 c = search needs
 
 down-again-2 : tie.Need-down-again-2 Inv-down μ-down Inv-waiting μ-waiting
 down-again-2 c =
@@ -109,7 +109,7 @@ nearest-requires c κs =
     (height-small mode count here, area-kept mode count here (looked .look .kept .1 .0), omega arith)
 
 sub-at : tie.Need-sub-at Inv-down μ-down Inv-waiting μ-waiting
-sub-at c = omega (arith, c .if3 .left)
+sub-at c = search needs
 
 node-at-requires : tie.Need-node-at-requires Inv-down μ-down Inv-waiting μ-waiting
 node-at-requires c κs =
@@ -123,7 +123,7 @@ node-at-requires c κs =
     (omega (arith, height-small mode count here, searched .nearest .ensures .within), area-kept mode count here (looked .look .kept .1 .0))
 
 waiting-less : tie.Need-waiting-less Inv-down μ-down Inv-waiting μ-waiting
-waiting-less c = let searched = c .before .before .before in omega (arith, searched .nearest .ensures .within, c .before .before .if3 .left)
+waiting-less c = omega (arith, c .before .before .before .nearest .ensures .within)
 
 waiting-again : tie.Need-waiting-again Inv-down μ-down Inv-waiting μ-waiting
 waiting-again c =

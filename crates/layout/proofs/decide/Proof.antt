@@ -1,4 +1,4 @@
--- `sheet::decide` meets its contract: the sizes, then the table's fault, then the run.
+-- `layout::decide` meets its contract: the sizes, then the table's fault, then the run.
 -- Assumes nothing.
 use borrow.Author.Tests.{not-true, not-false}
 use Rattle.layout.proofs.Whole.{sizes-decided, fault-decided, nodes-small, start-of, run-decided}
@@ -25,30 +25,34 @@ refused-requires-2 c κs = search needs
 
 returns-2 : tie.Need-returns-2
 returns-2 c =
-    let at4 = c .before .before .before .before in
-    let at5 = at4 .before in
-    let at6 = at5 .before in
-    fault-decided _ _ _ _ _ _ (sym (at6 .buffers-right .ensures) ∙ not-false _ (at5 .if1 .left)) (at4 .validate .ensures) (c .before .if2 .taken) (c .refused2 .ensures)
+    let validated = c .before .before .before .before in
+    let right = validated .before in
+    fault-decided _ _ _ _ _ _ (sym (right .before .buffers-right .ensures) ∙ not-false _ (right .if1 .left)) (validated .validate .ensures)
+    (c .before .if2 .taken)
+    (c .refused2 .ensures)
 
 cast-nodes : tie.Need-cast-nodes
 cast-nodes c =
-    let at3 = c .before .before .before in
-    let at4 = at3 .before in
-    let at5 = at4 .before in
-    let at11 = at5 .before .before .before .before .before .before in
-    let s = at11 in
-    let n = nodes-small (s .args .table .now) (s .args .text .now) (s .args .out .now) (s .args .events .now) (s .args .work .now) (s .args .width) (s .args .limit) (sym (at5 .buffers-right .ensures) ∙ not-false _ (at4 .if1 .left)) (sym (at3 .validate .ensures .0) ∙ c .if2 .left) in
+    let validated = c .before .before .before in
+    let right = validated .before in
+    let sized = right .before in
+    let start = sized .before .before .before .before .before .before .args in
+    let few =
+    nodes-small (start .table .now) (start .text .now) (start .out .now) (start .events .now) (start .work .now) (start .width) (start .limit)
+    (sym (sized .buffers-right .ensures) ∙ not-false _ (right .if1 .left))
+    (sym (validated .validate .ensures .0) ∙ c .if2 .left) in
     omega arith
 
 best-requires : tie.Need-best-requires
 best-requires c κs =
-    let at3 = c .before .before .before in
-    let at6 = at3 .before .before .before in
-    let at7 = at6 .before in
-    let at8 = at7 .before in
-    let at14 = at8 .before .before .before .before .before .before in
-    let s = at14 in
-    start-of (s .args .table .now) (s .args .text .now) (s .args .out .now) (s .args .events .now) (s .args .work .now) (s .args .width) (s .args .limit) (sym (at8 .buffers-right .ensures) ∙ not-false _ (at7 .if1 .left)) (sym (at6 .validate .ensures .0) ∙ at3 .if2 .left)
+    let tested = c .before .before .before in
+    let validated = tested .before .before .before in
+    let right = validated .before in
+    let sized = right .before in
+    let start = sized .before .before .before .before .before .before .args in
+    start-of (start .table .now) (start .text .now) (start .out .now) (start .events .now) (start .work .now) (start .width) (start .limit)
+    (sym (sized .buffers-right .ensures) ∙ not-false _ (right .if1 .left))
+    (sym (validated .validate .ensures .0) ∙ tested .if2 .left)
 
 sub-t25 : tie.Need-sub-t25
 sub-t25 c = omega (arith, c .before .before .before .before .before .before .before .before .best .ensures .left)
@@ -64,14 +68,17 @@ same-length-3 c = c .before .before .before .before .before .before .before .bef
 
 returns-3 : tie.Need-returns-3
 returns-3 c =
-    let at8 = c .before .before .before .before .before .before .before .before in
-    let at12 = at8 .before .before .before .before in
-    let at15 = at12 .before .before .before in
-    let at16 = at15 .before in
-    let at17 = at16 .before in
-    let at23 = at17 .before .before .before .before .before .before in
-    let s = at23 in
-    run-decided (s .args .table .now) (s .args .text .now) (s .args .out .now) (s .args .events .now) (s .args .work .now) (s .args .width) (s .args .limit) (sym (at17 .buffers-right .ensures) ∙ not-false _ (at16 .if1 .left)) (sym (at15 .validate .ensures .0) ∙ at12 .if2 .left) _ _ _ (at8 .best .ensures)
+    let run = c .before .before .before .before .before .before .before .before in
+    let tested = run .before .before .before .before in
+    let validated = tested .before .before .before in
+    let right = validated .before in
+    let sized = right .before in
+    let start = sized .before .before .before .before .before .before .args in
+    run-decided (start .table .now) (start .text .now) (start .out .now) (start .events .now) (start .work .now) (start .width) (start .limit)
+    (sym (sized .buffers-right .ensures) ∙ not-false _ (right .if1 .left))
+    (sym (validated .validate .ensures .0) ∙ tested .if2 .left)
+    _ _ _
+    (run .best .ensures)
 
 pub decide-spec : {M : Type 1} → statement M
 decide-spec =

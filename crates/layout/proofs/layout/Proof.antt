@@ -1,4 +1,4 @@
--- `sheet::layout` meets its contract: what was decided, with the buffers cleared past what is used.
+-- `layout::layout` meets its contract: what was decided, with the buffers cleared past what is used.
 -- Assumes nothing.
 use Rattle.layout.proofs.Whole.{called}
 use borrow.Author.Needs.{needs}
@@ -37,27 +37,15 @@ same-length-3 c = search needs
 
 returns : tie.Need-returns
 returns c =
-    let at2 = c .before .before in
-    let at6 = at2 .before .before .before .before in
-    let at10 = at6 .before .before .before .before in
-    let at20 = at10 .before .before .before .before .before .before .before .before .before .before in
-    called
-    _
-    _
-    _
-    _
-    _
-    (at20 .decide .last .1 .1 .1 .1 .1 .1 .0)
-    _
-    _
-    _
-    (at20 .decide .ensures)
-    (at20 .decide .kept .1 .1 .1 .1 .0)
-    (at20 .decide .kept .1 .1 .1 .1 .1 .0)
-    (at20 .decide .kept .1 .1 .1 .1 .1 .1 .0)
-    (at10 .zero-bytes-from .ensures)
-    (at6 .zero-words-from .ensures)
-    (at2 .clear-dirty-words .ensures)
+    let cleared = c .before .before in
+    let events = cleared .before .before .before .before in
+    let bytes = events .before .before .before .before in
+    let decided = bytes .before .before .before .before .before .before .before .before .before .before .decide in
+    let kept = decided .kept .1 .1 .1 .1 in
+    called _ _ _ _ _ (decided .last .1 .1 .1 .1 .1 .1 .0) _ _ _ (decided .ensures) (kept .0) (kept .1 .0) (kept .1 .1 .0)
+    (bytes .zero-bytes-from .ensures)
+    (events .zero-words-from .ensures)
+    (cleared .clear-dirty-words .ensures)
 
 pub layout-spec : {M : Type 1} → statement M
 layout-spec =
