@@ -1,4 +1,4 @@
 -- Laws of a whole call, and demands 1 and 2.
 mod Words
-mod Whole
+pub mod Whole
 pub mod Demands
