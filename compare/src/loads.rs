@@ -85,7 +85,7 @@ impl Maker {
     }
 }
 
-const SAMPLE: &str = include_str!("../../crates/chest/stdin");
+const SAMPLE: &str = include_str!("../../crates/sheet/stdin");
 
 /// Words that stay together up to 12 columns, where they fit in 38.
 fn pieces(text: &str) -> Vec<String> {

@@ -1,4 +1,4 @@
-//! chest: the sheet of a chest's test results (standard input, as crates/chest/stdin) as crate pretty lays it out. The document is the one
+//! chest: the sheet of a chest's test results (standard input, as crates/sheet/stdin) as crate pretty lays it out. The document is the one
 //! that crates/rows builds, made by the crate's own constructors; the margin is the one that crates/strip prints.
 
 #[cfg(not(pretty))]

@@ -1,8 +1,12 @@
-//! replay FOLDER [count=N] [seed=S]: writes FOLDER/stdin and FOLDER/stdout, the runs that the program crates/replay makes
-//! in `rt ci` and what it must write: the known runs first (known.txt), then the sizes at and past their limits, then N
-//! random calls with all of the answers 0 to 9.
+//! replay FOLDER [count=N] [seed=S]: writes FOLDER/stdin and FOLDER/stdout, the cases and runs that the program crates/replay
+//! makes in `rt ci` and what it must write. First the cases of cases.txt, each a table with the answer and the place that
+//! validation must give; then, behind a line that starts with a percent sign, the runs: the known ones (known.txt), the sizes at
+//! and past their limits, and N random calls with all of the answers 0 to 9.
 //!
-//! A line of stdin is one run: the table's words in decimal, the text bytes in hexadecimal, width, limit, room and slots,
+//! A case is a line: answer and place, the table's words, the text bytes, and a name, with bars between. What is written of it is
+//! answer, place and name; the cases are counted behind the last.
+//!
+//! A run is a line of stdin: the table's words in decimal, the text bytes in hexadecimal, width, limit, room and slots,
 //! and a name, with bars between; 7*40 stands for 40 times 7. A line of stdout is how it ends: answer, place and steps, the
 //! bytes used, the words of the events used, how many bytes of output, words of events and words of work are not zero that
 //! must be, and the name.
@@ -11,6 +15,9 @@ use compare::calls::{tight_call, wild_call, Call};
 use compare::known::known;
 use compare::model::Report;
 use compare::tables::{Random, Table};
+
+// the cases, as they stand in stdin
+const CASES: &str = include_str!("../../cases.txt");
 
 // what the replaying program can lend
 const WORDS: usize = 4200;
@@ -34,7 +41,8 @@ fn main() {
     let mut calls: Vec<(String, Call)> = known().into_iter().map(|known| (known.name.to_string(), known.call)).collect();
     calls.extend(at_the_limits());
     calls.extend(sample(count, seed));
-    let (mut input, mut output) = (String::new(), String::new());
+    let (mut input, mut output) = (CASES.to_string(), told_of_cases());
+    input += "% the runs: the table's words | text bytes | width limit room slots | name\n";
     let mut answers = [0; 10];
     for (name, call) in &calls {
         let sizes = [call.table.words.len() <= WORDS, call.table.text.len() <= TEXT, call.room <= ROOM, call.slots <= SLOTS];
@@ -47,6 +55,18 @@ fn main() {
     std::fs::write(format!("{folder}/stdin"), &input).expect("the folder can be written to");
     std::fs::write(format!("{folder}/stdout"), &output).expect("the folder can be written to");
     println!("{} runs, {} and {} bytes; answers 0 to 9: {answers:?}", calls.len(), input.len(), output.len());
+}
+
+/// What the program must write of the cases: what each of them wants, and how many they are.
+fn told_of_cases() -> String {
+    let mut told = String::new();
+    let mut count = 0;
+    for line in CASES.lines().filter(|line| !line.is_empty() && !line.starts_with('#')) {
+        let parts: Vec<&str> = line.splitn(4, '|').collect();
+        told += &format!("{}{}\n", parts[0].trim_end(), parts[3]);
+        count += 1;
+    }
+    told + &format!("{count} cases, 0 wrong\n")
 }
 
 /// Each size at its limit and one past it, and the smallest limits.

@@ -28,9 +28,9 @@ use Rattle.build.proofs.Stand.{made-granted, made-denied, made-same}
 use Rattle.build.proofs.Joins.{below-of}
 use Rattle.block.specs.declared.Block.{Block}
 use Rattle.block.specs.Block.{layouts, blockOf, sizesRight, operands, least}
-use Rattle.affixes.specs.Run.{Ready}
-use Rattle.block.specs.Run.{Askable}
-use Rattle.affixes.proofs.Chain.{no-room, ran-older}
+use Rattle.block.specs.Run.{Ready}
+use Rattle.block.specs.Operands.{Askable}
+use Rattle.block.proofs.Chain.{no-room, ran-older}
 use Rattle.block.proofs.Starts.{layouts-adds, layouts-three}
 
 -- denied with fewer nodes: denied with more
@@ -38,7 +38,8 @@ denied-on : (q : Bool) (w why : Why) (x y : Asked) → (x ≡ Denied why → y �
 denied-on true w why x y f e = e
 denied-on false w why x y f e = f e
 
-asked-more : (c : Counts) (words bytes : ℕ) (present amount text : Bool) (n m used : ℕ) (why : Why) → c .nodes ≤ n → n ≤ m → asked c words bytes present amount text n used ≡ Denied why → asked c words bytes present amount text m used ≡ Denied why
+asked-more : (c : Counts) (words bytes : ℕ) (present amount text : Bool) (n m used : ℕ) (why : Why) → c .nodes ≤ n → n ≤ m
+    → asked c words bytes present amount text n used ≡ Denied why → asked c words bytes present amount text m used ≡ Denied why
 unfolding asked
 asked-more c words bytes present amount text n m used why a b e =
     denied-on (past c words bytes) Sizes why _ _
@@ -48,7 +49,8 @@ asked-more c words bytes present amount text n m used why a b e =
     (denied-on (not (fits (c .bytes) used 65536 bytes)) Bytes why _ _ (last (fits (c .nodes) n 1024 (words / 4)) (fits (c .nodes) m 1024 (words / 4)) refl refl)))))
     e
   where
-    last : (p q : Bool) → fits (c .nodes) n 1024 (words / 4) ≡ p → fits (c .nodes) m 1024 (words / 4) ≡ q → pick (not p) (Denied Nodes) Granted ≡ Denied why → pick (not q) (Denied Nodes) Granted ≡ Denied why
+    last : (p q : Bool) → fits (c .nodes) n 1024 (words / 4) ≡ p → fits (c .nodes) m 1024 (words / 4) ≡ q → pick (not p) (Denied Nodes) Granted ≡ Denied why
+        → pick (not q) (Denied Nodes) Granted ≡ Denied why
     last true q h k x = let z : _≡_ {A = ℕ} 0 1 = cc in absurd (omega arith)
     last false true h k x = absurd (true≢false (sym k ∙ no-room (c .nodes) n m (words / 4) a b h))
     last false false h k x = x
@@ -88,7 +90,8 @@ module _ (c : Counts) (table text : List ℕ) (b : Block) (ps ss : List ℕ) (qs
   unfolding blockOf counted
   enough e = by ps (all-there e)
     where
-      by : (xs : List ℕ) → (b .body .0 < c .nodes) × (hasAll c xs ≡ true) × (hasAll c ss ≡ true) → (c .nodes + least (length xs) ≤ blockOf (counted c table text) b xs ss qs .draft .counts .nodes) × (blockOf (counted c table text) b xs ss qs .draft .counts .bytes ≡ c .bytes)
+      by : (xs : List ℕ) → (b .body .0 < c .nodes) × (hasAll c xs ≡ true) × (hasAll c ss ≡ true)
+          → (c .nodes + least (length xs) ≤ blockOf (counted c table text) b xs ss qs .draft .counts .nodes) × (blockOf (counted c table text) b xs ss qs .draft .counts .bytes ≡ c .bytes)
       by [] h = (omega arith, refl)
       by (x ∷ xs) h =
           let three = layouts-three (counted c table text) b (x ∷ xs) ss qs (length xs) (h .0) (below-of c (x ∷ xs) (h .1)) (below-of c ss (h .2)) in
@@ -96,17 +99,21 @@ module _ (c : Counts) (table text : List ℕ) (b : Block) (ps ss : List ℕ) (qs
           (rw (ne-eqb (suc (length xs)) 0 (λ z. omega arith)) three, adds .quiet)
 
   -- an operand that is no present node is refused whatever is asked for
-  no-operand : (n m u v : ℕ) {why : Why} → present ≡ false → asked c (length table) (length text) present right true n u ≡ Denied why → asked c (length table) (length text) present right true m v ≡ Denied why
+  no-operand : (n m u v : ℕ) {why : Why} → present ≡ false → asked c (length table) (length text) present right true n u ≡ Denied why
+      → asked c (length table) (length text) present right true m v ≡ Denied why
   unfolding asked
   no-operand n m u v q d = rw q (rw q at d)
 
   pub within-refused : (why : Why) → few-asked ≡ Denied why → outcome (Refused why) table text ≡ made c table text present right true f
   within-refused why d = made-denied c table text present right true f _ _ why refl refl (by present refl)
     where
-      by : (q : Bool) → present ≡ q → asked c (length table) (length text) present right true (f (counted c table text) .draft .counts .nodes) (f (counted c table text) .draft .counts .bytes) ≡ Denied why
+      by : (q : Bool) → present ≡ q
+          → asked c (length table) (length text) present right true (f (counted c table text) .draft .counts .nodes) (f (counted c table text) .draft .counts .bytes) ≡ Denied why
       by true q =
           let n = enough q in
-          rw (n .1) (asked-more c (length table) (length text) present right true (c .nodes + least (length ps)) _ (c .bytes) why (omega arith) (n .0) (rw (add-zero (c .bytes)) at d))
+          rw (n .1)
+          (asked-more c (length table) (length text) present right true (c .nodes + least (length ps)) _ (c .bytes) why (omega arith) (n .0)
+          (rw (add-zero (c .bytes)) at d))
       by false q = no-operand _ _ _ _ q d
 
   module _ (granted : few-asked ≡ Granted) where
@@ -144,7 +151,8 @@ module _ (c : Counts) (table text : List ℕ) (b : Block) (ps ss : List ℕ) (qs
             limit,
           )
 
-      pub within-last : {m : Made} {table′ : List ℕ} → outcome m table′ text ≡ made c table text true true true (λ s. layouts s b ps ss qs (length ps - 1)) → outcome m table′ text ≡ made c table text present right true f
+      pub within-last : {m : Made} {table′ : List ℕ} → outcome m table′ text ≡ made c table text true true true (λ s. layouts s b ps ss qs (length ps - 1))
+          → outcome m table′ text ≡ made c table text present right true f
       within-last o =
           rw (facts .operands, facts .amounts)
           (o ∙ made-same c table text true true true (λ s. layouts s b ps ss qs (length ps - 1)) f (sym (block-some (counted c table text) b ps ss qs some)))

@@ -1,6 +1,6 @@
 -- Each layer of a block around its Head and Tail only adds nodes, and answers one that is there.
 --     below-take, below-drop              parts of a list of present nodes
---     On, on-more                         all that an alternative has at hand is there, and stays there
+--     On, on-more                         all that an alternative names is there, and stays there
 --     nested-adds .. unions-adds          each layer
 -- Assumes nothing.
 use Prim.Native.Nat.{ℕ, zero, suc, _≤_, _<_}
@@ -14,9 +14,9 @@ use Rattle.build.proofs.Grow.{more-nodes}
 use Rattle.build.proofs.Joins.{Below, below-more}
 use Rattle.build.proofs.Only.{Adds, adds-then, older-adds, pick-adds, union-adds, append-adds, nest-adds}
 use Rattle.block.specs.declared.Block.{Block}
-use Rattle.affixes.specs.declared.Shared.{Shared}
-use Rattle.affixes.specs.Affixes.{list, bare, guarded, head, tail}
-use Rattle.affixes.proofs.Layers.{stays-there, stay-below, list-adds, guarded-adds, grouped, head-adds, tail-adds}
+use Rattle.block.specs.declared.Shared.{Shared}
+use Rattle.block.specs.Affixes.{list, bare, guarded, head, tail}
+use Rattle.block.proofs.Heads.{stays-there, stay-below, list-adds, guarded-adds, grouped, head-adds, tail-adds}
 use Rattle.block.specs.Block.{nested, core, wrap, wraps, alternative, unions}
 
 -- ---- present nodes
@@ -43,7 +43,8 @@ module _ (s : Draft) where
 
 -- ---- in order
 
-pub core-adds : (s : Draft) (b : Block) (sh : Shared) (q : Bool) (after : List ℕ) → b .body .0 < s .counts .nodes → sh .none .0 < s .counts .nodes → sh .guard .0 < s .counts .nodes → Below (s .counts .nodes) after → Adds s (core s b sh q after)
+pub core-adds : (s : Draft) (b : Block) (sh : Shared) (q : Bool) (after : List ℕ) → b .body .0 < s .counts .nodes → sh .none .0 < s .counts .nodes
+    → sh .guard .0 < s .counts .nodes → Below (s .counts .nodes) after → Adds s (core s b sh q after)
 unfolding core
 core-adds s b sh q after h n g l =
     let joined = guarded s sh (b .body .0) q in
@@ -71,7 +72,7 @@ wraps-adds s b n (p ∷ ps) (q ∷ qs) h l =
 
 -- ---- the alternatives
 
--- all that an alternative has at hand is there
+-- all that an alternative names is there
 pub record On (N : ℕ) (b : Block) (sh : Shared) (prefixes suffixes : List ℕ) : Type 0 where
   pub body : b .body .0 < N
   pub none : sh .none .0 < N
@@ -83,7 +84,8 @@ pub on-more : {N M : ℕ} {b : Block} {sh : Shared} {prefixes suffixes : List �
 on-more {prefixes = prefixes} {suffixes = suffixes} h o =
     record { body = omega (arith, o .body); none = omega (arith, o .none); guard = omega (arith, o .guard); before = below-more prefixes h (o .before); behind = below-more suffixes h (o .behind) }
 
-pub on-still : {s : Draft} {x : Built} {b : Block} {sh : Shared} {prefixes suffixes : List ℕ} → Adds s x → On (s .counts .nodes) b sh prefixes suffixes → On (x .draft .counts .nodes) b sh prefixes suffixes
+pub on-still : {s : Draft} {x : Built} {b : Block} {sh : Shared} {prefixes suffixes : List ℕ} → Adds s x → On (s .counts .nodes) b sh prefixes suffixes
+    → On (x .draft .counts .nodes) b sh prefixes suffixes
 on-still a o = on-more (more-nodes (a .grown)) o
 
 module _ (b : Block) (sh : Shared) (prefixes suffixes : List ℕ) (nests : List Bool) where
@@ -106,7 +108,8 @@ module _ (b : Block) (sh : Shared) (prefixes suffixes : List ℕ) (nests : List 
     pub middle-adds : Adds (front .draft) middle
     middle-adds =
         let p = on-still front-adds o in
-        core-adds (front .draft) b sh (bare (front .draft) (take split prefixes)) (drop split suffixes) (p .body) (p .none) (p .guard) (below-drop _ split suffixes (p .behind))
+        core-adds (front .draft) b sh (bare (front .draft) (take split prefixes)) (drop split suffixes) (p .body) (p .none) (p .guard)
+        (below-drop _ split suffixes (p .behind))
 
     pub wrapped-adds : Adds (middle .draft) wrapped
     wrapped-adds =
@@ -129,12 +132,14 @@ module _ (b : Block) (sh : Shared) (prefixes suffixes : List ℕ) (nests : List 
     alternative-adds = adds-then front-adds (adds-then middle-adds (adds-then wrapped-adds (adds-then back-adds join-adds)))
 
   -- the union with what stands
-  pub both-adds : (s : Draft) (n split : ℕ) → On (s .counts .nodes) b sh prefixes suffixes → Adds s (let other = alternative s b sh prefixes suffixes nests split in union (other .draft) n (other .node))
+  pub both-adds : (s : Draft) (n split : ℕ) → On (s .counts .nodes) b sh prefixes suffixes
+      → Adds s (let other = alternative s b sh prefixes suffixes nests split in union (other .draft) n (other .node))
   both-adds s n split o =
       let other = alternative s b sh prefixes suffixes nests split in
       adds-then (alternative-adds s split o) (union-adds (other .draft) n (other .node))
 
-  pub unions-adds : (s : Draft) (n split : ℕ) → n < s .counts .nodes → On (s .counts .nodes) b sh prefixes suffixes → Adds s (unions s b sh prefixes suffixes nests n split)
+  pub unions-adds : (s : Draft) (n split : ℕ) → n < s .counts .nodes → On (s .counts .nodes) b sh prefixes suffixes
+      → Adds s (unions s b sh prefixes suffixes nests n split)
   unfolding unions
   unions-adds s n zero h o = older-adds s n h
   unions-adds s n (suc split) h o =

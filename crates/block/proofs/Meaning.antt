@@ -1,4 +1,4 @@
--- What each layer of a block makes of a sheet without a fault: one without a fault, and a node that unfolds to its document.
+-- What each layer of a block makes of a draft without a fault: one without a fault, and a node that unfolds to its document.
 --     list-makes .. block-makes
 -- Assumes nothing.
 use Prim.Native.Nat.{ℕ, zero, suc, _≤_, _<_}
@@ -18,8 +18,8 @@ use Rattle.build.proofs.Says.{nil-is}
 use Rattle.build.proofs.Means.{Makes, there, still, after, meaning, older-makes, nest-makes, append-makes}
 use Rattle.build.proofs.Compose.{docs-still, grouped-makes, concat-makes}
 use Rattle.block.specs.declared.Block.{Block}
-use Rattle.affixes.specs.declared.Shared.{Shared}
-use Rattle.affixes.specs.Affixes.{list, allNil, bare, guarded, head, tail}
+use Rattle.block.specs.declared.Shared.{Shared}
+use Rattle.block.specs.Affixes.{list, allNil, bare, guarded, head, tail}
 use Rattle.block.specs.Block.{nested, core, wrap, wraps}
 use Rattle.block.specs.Documents.{allNilDoc, bareDoc, guardDoc, guardedDoc, headDoc, tailDoc, coreDoc, wrapDoc, wrapsDoc}
 
@@ -95,7 +95,8 @@ module _ {s : Draft} (c : Clean s) (sh : Shared) (h : Stand s sh) where
       let e = ap₂ guardedDoc (first .unfolds) (ap (ltb 1) (sym (map-length s before))) in
       grouped-makes (after first (meaning e second))
 
-  pub tail-makes : (n : ℕ) (before : List ℕ) → n < s .counts .nodes → Below (s .counts .nodes) before → Makes s (tail s sh n before) (tailDoc (docOf s n) (map (docOf s) before))
+  pub tail-makes : (n : ℕ) (before : List ℕ) → n < s .counts .nodes → Below (s .counts .nodes) before
+      → Makes s (tail s sh n before) (tailDoc (docOf s n) (map (docOf s) before))
   unfolding tail tailDoc
   tail-makes n before l b =
       let first = list-makes c (sh .none .0) before (h .none) (h .none-is) b in
@@ -103,25 +104,29 @@ module _ {s : Draft} (c : Clean s) (sh : Shared) (h : Stand s sh) where
       grouped-makes (after first (meaning (ap₂ appendDoc (still c first n l) (first .unfolds)) second))
 
   module _ (b : Block) (p : b .amount .0 ≤ 1000) (w : b .way ≤ 1) where
-    pub core-makes : (q : Bool) (behind : List ℕ) → b .body .0 < s .counts .nodes → Below (s .counts .nodes) behind → Makes s (core s b sh q behind) (coreDoc (b .amount .0) (b .way) (docOf s (b .body .0)) q (map (docOf s) behind))
+    pub core-makes : (q : Bool) (behind : List ℕ) → b .body .0 < s .counts .nodes → Below (s .counts .nodes) behind
+        → Makes s (core s b sh q behind) (coreDoc (b .amount .0) (b .way) (docOf s (b .body .0)) q (map (docOf s) behind))
     unfolding core coreDoc
     core-makes q behind l k =
         let first = guarded-makes c sh (b .body .0) q (h .guard) (h .guard-is) l in
-        let second = after first (meaning (ap (λ (d : Doc). nestDoc d (b .amount .0) (b .way)) (first .unfolds)) (nested-makes (first .clean) b p w _ true (first .present))) in
+        let second =
+        after first (meaning (ap (λ (d : Doc). nestDoc d (b .amount .0) (b .way)) (first .unfolds)) (nested-makes (first .clean) b p w _ true (first .present))) in
         let t = stand-still c second h in
         let third = list-makes (second .clean) (sh .none .0) behind (t .none) (t .none-is) (below-still second behind k) in
         let e = ap₂ appendDoc (still (second .clean) third _ (second .present) ∙ second .unfolds) (third .unfolds ∙ ap concatDoc (docs-still c second behind k)) in
         after second (after third (meaning e (append-makes (third .clean) _ _ (there third (second .present)) (third .present))))
 
 module _ (b : Block) (p : b .amount .0 ≤ 1000) (w : b .way ≤ 1) where
-  wrap-makes : {s : Draft} → Clean s → (n prefix : ℕ) (q : Bool) → n < s .counts .nodes → prefix < s .counts .nodes → Makes s (wrap s b n prefix q) (wrapDoc (b .amount .0) (b .way) (docOf s n) (docOf s prefix) q)
+  wrap-makes : {s : Draft} → Clean s → (n prefix : ℕ) (q : Bool) → n < s .counts .nodes → prefix < s .counts .nodes
+      → Makes s (wrap s b n prefix q) (wrapDoc (b .amount .0) (b .way) (docOf s n) (docOf s prefix) q)
   unfolding wrap wrapDoc
   wrap-makes {s} c n prefix q l k =
       let first = append-makes c prefix n k l in
       let second = nested-makes (first .clean) b p w _ q (first .present) in
       grouped-makes (after first (meaning (ap (λ (d : Doc). pick q (nestDoc d (b .amount .0) (b .way)) d) (first .unfolds)) second))
 
-  pub wraps-makes : {s : Draft} → Clean s → (n : ℕ) (ps : List ℕ) (qs : List Bool) → n < s .counts .nodes → Below (s .counts .nodes) ps → Makes s (wraps s b n ps qs) (wrapsDoc (b .amount .0) (b .way) (docOf s n) (map (docOf s) ps) qs)
+  pub wraps-makes : {s : Draft} → Clean s → (n : ℕ) (ps : List ℕ) (qs : List Bool) → n < s .counts .nodes → Below (s .counts .nodes) ps
+      → Makes s (wraps s b n ps qs) (wrapsDoc (b .amount .0) (b .way) (docOf s n) (map (docOf s) ps) qs)
   unfolding wraps wrapsDoc
   wraps-makes c n [] qs l k = older-makes c n l
   wraps-makes c n (x ∷ ps) [] l k = older-makes c n l

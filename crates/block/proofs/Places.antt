@@ -26,24 +26,27 @@ use Rattle.build.proofs.Stand.{same-words}
 use Rattle.build.proofs.Only.{Adds, made-whole, made-short}
 use Rattle.block.specs.declared.Block.{Block}
 use Rattle.block.specs.Block.{layouts}
-use Rattle.affixes.specs.Run.{Ready, Ran}
-use Rattle.block.specs.Run.{Askable}
-use Rattle.affixes.proofs.Chain.{At, start-node, start-list, at, no-fit, had-room}
+use Rattle.block.specs.Run.{Ready, Ran}
+use Rattle.block.specs.Operands.{Askable}
+use Rattle.block.proofs.Chain.{At, start-node, start-list, at, no-fit, had-room}
 use Rattle.block.proofs.Starts.{layouts-adds, layouts-three}
 
 -- new words laid over the lent table
-over-copied : (table own words t : List ℕ) (used n : ℕ) → t ≡ take used table ++ words → used ≤ length table → length words ≡ n → put table used (take n (drop used (over t own))) ≡ over t table
+over-copied : (table own words t : List ℕ) (used n : ℕ) → t ≡ take used table ++ words → used ≤ length table → length words ≡ n
+    → put table used (take n (drop used (over t own))) ≡ over t table
 unfolding put
 over-copied table own words t used n e h l =
     let front = length-take-le used table h in
     let rest = drop (length t) own in
     let all : over t own ≡ take used table ++ (words ++ rest) = ap (λ (x : List ℕ). x ++ rest) e ∙ append-assoc (take used table) words rest in
-    let words-are : take n (drop used (over t own)) ≡ words = ap (λ (x : List ℕ). take n (drop used x)) all ∙ ap (take n) (drop-at (take used table) (words ++ rest) used front) ∙ take-at words rest n l in
+    let words-are : take n (drop used (over t own)) ≡ words =
+    ap (λ (x : List ℕ). take n (drop used x)) all ∙ ap (take n) (drop-at (take used table) (words ++ rest) used front) ∙ take-at words rest n l in
     let size : length t ≡ used + length words = ap length e ∙ length-append (take used table) words ∙ ap (λ (x : ℕ). x + length words) front in
     ap (λ (x : List ℕ). take used table ++ x ++ drop (used + length x) table) words-are
     ∙ ap₂ (λ (x : List ℕ) (y : ℕ). x ++ drop y table) (sym e) (sym size)
 
-module _ {c : Counts} {table text : List ℕ} (r : Ready c table text) {b : Block} {ps ss : List ℕ} {qs : List Bool} (k : Askable c b ps ss qs) (few : c .nodes + 3 ≤ 1024) {own : List ℕ} (copied : own ≡ put (replicate 4096 0) 0 (take (c .nodes * 4) (drop 0 table))) where
+module _ {c : Counts} {table text : List ℕ} (r : Ready c table text) {b : Block} {ps ss : List ℕ} {qs : List Bool} (k : Askable c b ps ss qs)
+    (few : c .nodes + 3 ≤ 1024) {own : List ℕ} (copied : own ≡ put (replicate 4096 0) 0 (take (c .nodes * 4) (drop 0 table))) where
   abbrev others : ℕ
   others = length ps - 1
 
@@ -57,7 +60,10 @@ module _ {c : Counts} {table text : List ℕ} (r : Ready c table text) {b : Bloc
   front = length-take-le (c .nodes * 4) table used-inside
 
   own-length : length own ≡ 4096
-  own-length = ap length copied ∙ length-put (replicate 4096 0) 0 (take (c .nodes * 4) table) (c .nodes * 4) front (rw (length-replicate {A = ℕ} 4096 0) (omega arith)) ∙ length-replicate {A = ℕ} 4096 0
+  own-length =
+      ap length copied
+      ∙ length-put (replicate 4096 0) 0 (take (c .nodes * 4) table) (c .nodes * 4) front (rw (length-replicate {A = ℕ} 4096 0) (omega arith))
+      ∙ length-replicate {A = ℕ} 4096 0
 
   own-front : take (c .nodes * 4) own ≡ take (c .nodes * 4) table
   own-front =
@@ -110,7 +116,8 @@ module _ {c : Counts} {table text : List ℕ} (r : Ready c table text) {b : Bloc
     pub placed-stop : {why : Why} → m ≡ Refused why → Goal m table
     placed-stop x =
         let none = no-fit own-ready own-adds ran x in
-        let small : W ≤ 1024 → fits (c .nodes) W 1024 (length own / 4) ≡ true = λ l. let g : c .nodes ≤ W = let h = three in omega arith in of-fits (record { grows = g; limited = λ y. l; inside = λ y. rw own-length (omega arith) }) in
+        let small : W ≤ 1024 → fits (c .nodes) W 1024 (length own / 4) ≡ true =
+        λ l. let g : c .nodes ≤ W = let h = three in omega arith in of-fits (record { grows = g; limited = λ y. l; inside = λ y. rw own-length (omega arith) }) in
         rw (ran .short none) (refused (none-lent (fits (c .nodes) W 1024 (length table / 4)) refl (λ l m. true≢false (sym (small l) ∙ none))))
 
     module _ {d : Counts} {n : NodeNo} (x : m ≡ Node d n) where
@@ -134,7 +141,8 @@ module _ {c : Counts} {table text : List ℕ} (r : Ready c table text) {b : Bloc
           let size = same-words (t .0 .stands) ∙ own-length in
           (omega arith, omega arith, omega arith)
 
-      pub placed-last : d .nodes ≤ length table / 4 → {table′ : List ℕ} → table′ ≡ put table (c .nodes * 4) (take (d .nodes * 4 - c .nodes * 4) (drop (c .nodes * 4) own₁)) → Goal (Node d n) table′
+      pub placed-last : d .nodes ≤ length table / 4 → {table′ : List ℕ}
+          → table′ ≡ put table (c .nodes * 4) (take (d .nodes * 4 - c .nodes * 4) (drop (c .nodes * 4) own₁)) → Goal (Node d n) table′
       unfolding added counted
       placed-last h e =
           let is = is-whole in
@@ -142,7 +150,8 @@ module _ {c : Counts} {table text : List ℕ} (r : Ready c table text) {b : Bloc
           let g : c .nodes ≤ W = omega arith in
           let room : Fits (c .nodes) W 1024 (length table / 4) = record { grows = g; limited = λ y. few-whole; inside = λ y. omega arith } in
           let size : length (adds .grown .words) ≡ d .nodes * 4 - c .nodes * 4 = let n = adds .grown .nodes in omega arith in
-          let words = over-copied table own (adds .grown .words) (whole .draft .table) (c .nodes * 4) (d .nodes * 4 - c .nodes * 4) (adds .grown .table) used-inside size in
+          let words =
+          over-copied table own (adds .grown .words) (whole .draft .table) (c .nodes * 4) (d .nodes * 4 - c .nodes * 4) (adds .grown .table) used-inside size in
           let laid = e ∙ ap (λ (l : List ℕ). put table (c .nodes * 4) (take (d .nodes * 4 - c .nodes * 4) (drop (c .nodes * 4) l))) (t .0 .stands .words) ∙ words in
           let kept = t .0 .stands .bytes in
           (λ i. outcome (Node (t .0 .stands .counts i) (record { 0 = t .1 i })) (laid i) (kept i))

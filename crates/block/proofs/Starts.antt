@@ -21,19 +21,19 @@ use Rattle.build.proofs.Grow.{more-nodes}
 use Rattle.build.proofs.Joins.{Below, below-more, below-of}
 use Rattle.build.proofs.Only.{Adds, adds-then, nil-adds, fail-adds, flatAlt-adds}
 use Rattle.block.specs.declared.Block.{Block}
-use Rattle.affixes.specs.declared.Shared.{Shared}
+use Rattle.block.specs.declared.Shared.{Shared}
 use Rattle.block.specs.Block.{alternative, unions, layouts}
-use Rattle.affixes.specs.Run.{Ready, Ran}
-use Rattle.block.specs.Run.{Hand, Even, Askable}
-use Rattle.affixes.proofs.Layers.{of-below, stays-there, stay-below}
+use Rattle.block.specs.Run.{Ready, Ran}
+use Rattle.block.specs.Operands.{AllPresent, Even, Askable}
+use Rattle.block.proofs.Heads.{of-below, stays-there, stay-below}
 use Rattle.block.proofs.Layers.{On, on-still, alternative-adds, unions-adds}
-use Rattle.affixes.proofs.Chain.{At, begin, ready, later, start-node, start-list, go, go-made, at, stop, counted-node, two}
+use Rattle.block.proofs.Chain.{At, begin, ready, later, start-node, start-list, go, go-made, at, stop, counted-node, two}
 use Rattle.block.proofs.Steps.{bodied-later}
 
 abbrev sharedOf : ℕ → ℕ → Shared
 sharedOf none guard = record { none = record { 0 = none }; guard = record { 0 = guard } }
 
--- the guard nodes of a sheet
+-- the guard nodes of a draft
 module _ (s : Draft) where
   abbrev b₁ : Built
   b₁ = nil s
@@ -62,7 +62,8 @@ module _ (s : Draft) where
   none-there : b₁ .node < b₃ .draft .counts .nodes
   none-there = stays-there d₃ (stays-there d₂ (d₁ .present))
 
-  module _ (b : Block) (ps ss : List ℕ) (qs : List Bool) (others : ℕ) (body : b .body .0 < s .counts .nodes) (before : Below (s .counts .nodes) ps) (behind : Below (s .counts .nodes) ss) where
+  module _ (b : Block) (ps ss : List ℕ) (qs : List Bool) (others : ℕ) (body : b .body .0 < s .counts .nodes) (before : Below (s .counts .nodes) ps)
+      (behind : Below (s .counts .nodes) ss) where
     abbrev b₄ : Built
     b₄ = alternative (b₃ .draft) b sh ps ss qs (suc others)
 
@@ -126,12 +127,14 @@ module _ {c : Counts} {table text : List ℕ} (r : Ready c table text) {b : Bloc
       pub start-stop₂ : {why : Why} → m₂ ≡ Refused why → Ran c table text whole m₂ table₂
       start-stop₂ x = stop r a₁₂ so₂ x (adds-then (d₃ s₀) (adds-then a₄ a₅))
 
-      module _ {c₂ : Counts} {n₂ : NodeNo} (x₂ : m₂ ≡ Node c₂ n₂) {m₃ : Made} {table₃ : List ℕ} (o₃ : outcome m₃ table₃ text ≡ flatAltMade c₂ table₂ text (n₂ .0) (n₁ .0)) where
+      module _ {c₂ : Counts} {n₂ : NodeNo} (x₂ : m₂ ≡ Node c₂ n₂) {m₃ : Made} {table₃ : List ℕ}
+          (o₃ : outcome m₃ table₃ text ≡ flatAltMade c₂ table₂ text (n₂ .0) (n₁ .0)) where
         so₃ : Ran c table text (b₃ s₀) m₃ table₃
         so₃ =
             let t = at r a₁₂ so₂ x₂ in
             let n = at r (d₁ s₀) so₁ x₁ .1 in
-            go-made (t .0) (λ s. flatAlt s (b₂ s₀ .node) (b₁ s₀ .node)) (d₃ s₀) (two (t .0) (b₂ s₀ .node) (b₁ s₀ .node) (d₂ s₀ .present) (stays-there (d₂ s₀) (d₁ s₀ .present))) refl (rw (t .1, n) at o₃)
+            go-made (t .0) (λ s. flatAlt s (b₂ s₀ .node) (b₁ s₀ .node)) (d₃ s₀)
+            (two (t .0) (b₂ s₀ .node) (b₁ s₀ .node) (d₂ s₀ .present) (stays-there (d₂ s₀) (d₁ s₀ .present))) refl (rw (t .1, n) at o₃)
 
         pub start-stop₃ : {why : Why} → m₃ ≡ Refused why → Ran c table text whole m₃ table₃
         start-stop₃ x = stop r (d₁₂₃ s₀) so₃ x (adds-then a₄ a₅)
@@ -144,8 +147,8 @@ module _ {c : Counts} {table text : List ℕ} (r : Ready c table text) {b : Bloc
           shared-is : record { none = n₁; guard = n₃ } ≡ sh s₀
           shared-is = let n = at r (d₁ s₀) so₁ x₁ .1 in λ i. record { none = record { 0 = n i }; guard = record { 0 = t₃ .1 i } }
 
-          hand : Hand c₃ b (record { none = n₁; guard = n₃ }) ps ss
-          hand =
+          all-present : AllPresent c₃ b (record { none = n₁; guard = n₃ }) ps ss
+          all-present =
               let l = later (t₃ .0) in
               rw shared-is
               (record {
@@ -155,10 +158,11 @@ module _ {c : Counts} {table text : List ℕ} (r : Ready c table text) {b : Bloc
                 behind = of-below c₃ ss (below-more ss l (below-of c ss (k .behind)));
               })
 
-          pub start-asks₄ : Ready c₃ table₃ text × Hand c₃ b (record { none = n₁; guard = n₃ }) ps ss × Even (length ps) ps ss qs
-          start-asks₄ = (ready (t₃ .0), hand, k .even)
+          pub start-asks₄ : Ready c₃ table₃ text × AllPresent c₃ b (record { none = n₁; guard = n₃ }) ps ss × Even (length ps) ps ss qs
+          start-asks₄ = (ready (t₃ .0), all-present, k .even)
 
-          module _ {m₄ : Made} {table₄ : List ℕ} (ran₄ : Ran c₃ table₃ text (alternative (counted c₃ table₃ text) b (record { none = n₁; guard = n₃ }) ps ss qs (length ps)) m₄ table₄) where
+          module _ {m₄ : Made} {table₄ : List ℕ}
+              (ran₄ : Ran c₃ table₃ text (alternative (counted c₃ table₃ text) b (record { none = n₁; guard = n₃ }) ps ss qs (length ps)) m₄ table₄) where
             so₄ : Ran c table text (b₄ s₀ b ps ss qs others the-body the-before the-behind) m₄ table₄
             so₄ =
                 let all : length ps ≡ suc others = let h = k .some in omega arith in
@@ -171,14 +175,15 @@ module _ {c : Counts} {table text : List ℕ} (r : Ready c table text) {b : Bloc
               t₄ : At c table text (b₄ s₀ b ps ss qs others the-body the-before the-behind .draft) c₄ table₄ × (n₄ .0 ≡ b₄ s₀ b ps ss qs others the-body the-before the-behind .node)
               t₄ = at r (adds-then (d₁₂₃ s₀) a₄) so₄ x₄
 
-              pub start-asks₅ : Ready c₄ table₄ text × Hand c₄ b (record { none = n₁; guard = n₃ }) ps ss × Even (length ps - 1) ps ss qs × (n₄ .0 < c₄ .nodes)
+              pub start-asks₅ : Ready c₄ table₄ text × AllPresent c₄ b (record { none = n₁; guard = n₃ }) ps ss × Even (length ps - 1) ps ss qs × (n₄ .0 < c₄ .nodes)
               start-asks₅ =
                   let l = later (t₄ .0) in (
                     ready (t₄ .0),
                     rw shared-is
                         (record {
                           bodied = bodied-later (t₄ .0) (k .bodied);
-                          shares = record { none = counted-node (t₄ .0) (stays-there a₄ (none-there s₀)); guard = counted-node (t₄ .0) (stays-there a₄ (d₃ s₀ .present)) };
+                          shares =
+                              record { none = counted-node (t₄ .0) (stays-there a₄ (none-there s₀)); guard = counted-node (t₄ .0) (stays-there a₄ (d₃ s₀ .present)) };
                           before = of-below c₄ ps (below-more ps l (below-of c ps (k .before)));
                           behind = of-below c₄ ss (below-more ss l (below-of c ss (k .behind)));
                         }),
@@ -186,6 +191,9 @@ module _ {c : Counts} {table text : List ℕ} (r : Ready c table text) {b : Bloc
                     rw (t₄ .1) (counted-node (t₄ .0) (a₄ .present)),
                   )
 
-              pub start-last : {m₅ : Made} {table₅ : List ℕ} → Ran c₄ table₄ text (unions (counted c₄ table₄ text) b (record { none = n₁; guard = n₃ }) ps ss qs (n₄ .0) (length ps - 1)) m₅ table₅ → Ran c table text whole m₅ table₅
+              pub start-last : {m₅ : Made} {table₅ : List ℕ}
+                  → Ran c₄ table₄ text (unions (counted c₄ table₄ text) b (record { none = n₁; guard = n₃ }) ps ss qs (n₄ .0) (length ps - 1)) m₅ table₅
+                  → Ran c table text whole m₅ table₅
               unfolding layouts
-              start-last ran₅ = go (t₄ .0) (λ s. unions s b (sh s₀) ps ss qs (b₄ s₀ b ps ss qs others the-body the-before the-behind .node) others) a₅ (rw (shared-is, t₄ .1) at ran₅)
+              start-last ran₅ =
+                  go (t₄ .0) (λ s. unions s b (sh s₀) ps ss qs (b₄ s₀ b ps ss qs others the-body the-before the-behind .node) others) a₅ (rw (shared-is, t₄ .1) at ran₅)

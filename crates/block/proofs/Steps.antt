@@ -18,14 +18,14 @@ use Rattle.build.specs.Outcome.{outcome}
 use Rattle.build.specs.Constructors.{hasAll, appendMade}
 use Rattle.build.proofs.Only.{Adds, adds-then, append-adds}
 use Rattle.block.specs.declared.Block.{Block}
-use Rattle.affixes.specs.declared.Shared.{Shared}
-use Rattle.affixes.specs.Affixes.{list, guarded}
+use Rattle.block.specs.declared.Shared.{Shared}
+use Rattle.block.specs.Affixes.{list, guarded}
 use Rattle.block.specs.Block.{nested, core}
-use Rattle.affixes.specs.Run.{Ready, Shares, Ran}
-use Rattle.block.specs.Run.{Bodied}
-use Rattle.affixes.proofs.Layers.{stays-there, stay-below, list-adds, guarded-adds}
+use Rattle.block.specs.Run.{Ready, Shares, Ran}
+use Rattle.block.specs.Operands.{Bodied}
+use Rattle.block.proofs.Heads.{stays-there, stay-below, list-adds, guarded-adds}
 use Rattle.block.proofs.Layers.{nested-adds}
-use Rattle.affixes.proofs.Chain.{At, ready, later, start-node, start-list, go, go-made, at, stop, counted-node, counted-list, shares-later, two}
+use Rattle.block.proofs.Chain.{At, ready, later, start-node, start-list, go, go-made, at, stop, counted-node, counted-list, shares-later, two}
 
 module _ {c : Counts} {table text : List ℕ} {s : Draft} {c₁ : Counts} {table₁ : List ℕ} (a : At c table text s c₁ table₁) where
   pub bodied-later : {b : Block} → Bodied c b → Bodied c₁ b
@@ -33,7 +33,8 @@ module _ {c : Counts} {table text : List ℕ} {s : Draft} {c₁ : Counts} {table
 
 -- ---- Core
 
-module _ {c : Counts} {table text : List ℕ} (r : Ready c table text) {b : Block} (k : Bodied c b) {sh : Shared} (j : Shares c sh) (q : Bool) (after : List ℕ) (h : hasAll c after ≡ true) where
+module _ {c : Counts} {table text : List ℕ} (r : Ready c table text) {b : Block} (k : Bodied c b) {sh : Shared} (j : Shares c sh) (q : Bool) (after : List ℕ)
+    (h : hasAll c after ≡ true) where
   abbrev s₀ : Draft
   s₀ = counted c table text
 
@@ -88,9 +89,11 @@ module _ {c : Counts} {table text : List ℕ} (r : Ready c table text) {b : Bloc
             pub core-stop₃ : {why : Why} → m₃ ≡ Refused why → Ran c table text (core s₀ b sh q after) m₃ table₃
             core-stop₃ e = stop r (adds-then d₁₂ d₃) so₃ e d₄
 
-            pub core-last : {c₃ : Counts} {n₃ : NodeNo} → m₃ ≡ Node c₃ n₃ → {m₄ : Made} {table₄ : List ℕ} → outcome m₄ table₄ text ≡ appendMade c₃ table₃ text (n₂ .0) (n₃ .0) → Ran c table text (core s₀ b sh q after) m₄ table₄
+            pub core-last : {c₃ : Counts} {n₃ : NodeNo} → m₃ ≡ Node c₃ n₃ → {m₄ : Made} {table₄ : List ℕ}
+                → outcome m₄ table₄ text ≡ appendMade c₃ table₃ text (n₂ .0) (n₃ .0) → Ran c table text (core s₀ b sh q after) m₄ table₄
             unfolding core
             core-last e₃ o =
                 let t = at r (adds-then d₁₂ d₃) so₃ e₃ in
                 let n = at r d₁₂ so₂ e₂ .1 in
-                go-made (t .0) (λ s. append s (b₂ .node) (b₃ .node)) d₄ (two (t .0) (b₂ .node) (b₃ .node) (stays-there d₃ (d₂ .present)) (d₃ .present)) refl (rw (n, t .1) at o)
+                go-made (t .0) (λ s. append s (b₂ .node) (b₃ .node)) d₄ (two (t .0) (b₂ .node) (b₃ .node) (stays-there d₃ (d₂ .present)) (d₃ .present)) refl
+                (rw (n, t .1) at o)

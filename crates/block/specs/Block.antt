@@ -1,4 +1,4 @@
--- What a block layout adds, in document 01's order, said by what the constructors add; Head and Tail are affixes/specs/Affixes'.
+-- What a block layout adds, in document 01's order, said by what the constructors add; Head and Tail are in Affixes.
 use Prim.Native.Nat.{ℕ, zero, suc}
 use mathlib.Core.Bool.{Bool, true, _&&_}
 use mathlib.Core.List.{List, [], _∷_}
@@ -7,13 +7,12 @@ use lib.Dec.{eqb, leb}
 use Rattle.choice.specs.Pick.{pick}
 use Rattle.build.specs.declared.Counts.{Counts}
 use Rattle.build.specs.declared.Why.the-variants.{Sizes}
-use Rattle.build.specs.declared.Made.the-variants.{Refused}
 use Rattle.build.specs.Draft.{Draft, Built, older}
 use Rattle.build.specs.Parts.{nil, append, group, flatAlt, nest, union, fail}
-use Rattle.build.specs.Outcome.{Outcome, outcome, made}
+use Rattle.build.specs.Outcome.{Outcome, refused, made}
 use Rattle.build.specs.Constructors.{has, hasAll, nestRight}
-use Rattle.affixes.specs.declared.Shared.{Shared}
-use Rattle.affixes.specs.Affixes.{list, bare, guarded, head, tail}
+use Rattle.block.specs.declared.Shared.{Shared}
+use Rattle.block.specs.Affixes.{list, bare, guarded, head, tail}
 use Rattle.block.specs.declared.Block.{Block}
 
 -- a node, nested by the amount if flagged
@@ -92,4 +91,4 @@ unfoldable pub formatMade : Counts → List ℕ → List ℕ → Block → List 
 formatMade c table text b prefixes suffixes nests =
     pick (sizesRight (length prefixes) (length suffixes) (length nests))
     (made c table text (operands c b prefixes suffixes) (nestRight (b .amount .0) (b .way)) true (λ s. blockOf s b prefixes suffixes nests))
-    (outcome (Refused Sizes) table text)
+    (refused Sizes table text)

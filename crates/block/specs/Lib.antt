@@ -1,4 +1,6 @@
--- The definitions of the block layouts: what is added, what a run of parts asks, and the document.
+-- The definitions of the block layouts: what is added, what a run of parts leaves and asks, and the document.
+pub mod Affixes
 pub mod Block
 pub mod Run
+pub mod Operands
 pub mod Documents

@@ -1,37 +1,32 @@
--- What a run of parts (affixes/specs/Run) asks of a block and its affixes.
-use Prim.Native.Nat.{ℕ, _≤_, _<_}
+-- A run of parts on a table of their own: all of them, or a refusal for want of nodes, whatever is then left of that table.
+use Prim.Native.Nat.{ℕ, _/_, _≤_, _<_}
 use mathlib.Core.Path.{_≡_}
-use mathlib.Core.Bool.{Bool, true}
+use mathlib.Core.Bool.{true, false}
 use mathlib.Core.List.{List}
 use lib.ListN.{length}
 use Rattle.build.specs.declared.Counts.{Counts}
-use Rattle.build.specs.Constructors.{hasAll, nestRight}
-use Rattle.affixes.specs.declared.Shared.{Shared}
-use Rattle.affixes.specs.Run.{Shares}
-use Rattle.block.specs.declared.Block.{Block}
+use Rattle.build.specs.declared.Why.the-variants.{Nodes}
+use Rattle.build.specs.declared.Made.{Made}
+use Rattle.build.specs.declared.Made.the-variants.{Refused}
+use Rattle.build.specs.Draft.{Draft, Built, counted}
+use Rattle.build.specs.Outcome.{fits, outcome, added}
+use Rattle.block.specs.declared.Shared.{Shared}
 
--- the body is there, and the amount is right
-pub record Bodied (c : Counts) (b : Block) : Type 0 where
-  pub body : b .body .0 < c .nodes
-  pub amount : nestRight (b .amount .0) (b .way) ≡ true
+-- counts lie in table and text
+pub record Ready (c : Counts) (table text : List ℕ) : Type 0 where
+  pub nodes : c .nodes ≤ length table / 4
+  pub bytes : c .bytes ≤ length text
 
--- all that an alternative has at hand is there
-pub record Hand (c : Counts) (b : Block) (sh : Shared) (prefixes suffixes : List ℕ) : Type 0 where
-  pub bodied : Bodied c b
-  pub shares : Shares c sh
-  pub before : hasAll c prefixes ≡ true
-  pub behind : hasAll c suffixes ≡ true
+-- the shared nodes are there
+pub record Shares (c : Counts) (sh : Shared) : Type 0 where
+  pub none : sh .none .0 < c .nodes
+  pub guard : sh .guard .0 < c .nodes
 
--- so many affixes before, of as many as there are
-pub record Even (split : ℕ) (prefixes suffixes : List ℕ) (nests : List Bool) : Type 0 where
-  pub some : split ≤ length prefixes
-  pub behind : length suffixes ≡ length prefixes
-  pub flags : length nests ≡ length prefixes
+-- what was built stands over the table if there is room for it; else the refusal
+pub record Ran (c : Counts) (table text : List ℕ) (b : Built) (r : Made) (table′ : List ℕ) : Type 0 where
+  pub whole : fits (c .nodes) (b .draft .counts .nodes) 1024 (length table / 4) ≡ true → outcome r table′ text ≡ added b table text
+  pub short : fits (c .nodes) (b .draft .counts .nodes) 1024 (length table / 4) ≡ false → r ≡ Refused Nodes
 
--- a block with affixes, all that it names there and its amount right
-pub record Askable (c : Counts) (b : Block) (prefixes suffixes : List ℕ) (nests : List Bool) : Type 0 where
-  pub bodied : Bodied c b
-  pub before : hasAll c prefixes ≡ true
-  pub behind : hasAll c suffixes ≡ true
-  pub even : Even (length prefixes) prefixes suffixes nests
-  pub some : 0 < length prefixes
+-- the same of what a part adds to what is counted
+abbrev pub Runs : Counts → List ℕ → List ℕ → (Draft → Built) → Made → List ℕ → Type 0
+Runs c table text part r table′ = Ran c table text (part (counted c table text)) r table′

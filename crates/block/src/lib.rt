@@ -1,18 +1,16 @@
 // The block layouts, over what the constructors promise. Each part is asked of them in document 01's order; parts.rt has an
-// alternative and its Core, crate affixes Head and Tail. `format` has no `requires`, and says its whole outcome by one definition, so one
+// alternative and its Core, affixes.rt Head and Tail. `format` has no `requires`, and says its whole outcome by one definition, so one
 // outcome is possible.
 ghost use mathlib.Core.Path.{_≡_};
 ghost use mathlib.Core.Bool.{true};
 ghost use Prim.Native.Nat.{_+_, _-_, _<_, _≤_};
 ghost use lib.ListN.{length, take, drop};
 ghost use Rattle.buffer.specs.Run.{put};
-ghost use Rattle.build.specs.Draft.{counted};
 ghost use Rattle.build.specs.Outcome.{outcome, made};
 ghost use Rattle.build.specs.Constructors.{nestRight};
-ghost use Rattle.affixes.specs.Run.{Ready, Ran};
 ghost use Rattle.block.specs.Block.{alternative, unions, layouts, blockOf, sizesRight, operands, least, formatMade};
-ghost use Rattle.block.specs.Run.{Hand, Even, Askable};
-use affixes::Shared;
+ghost use Rattle.block.specs.Run.{Ready, Runs};
+ghost use Rattle.block.specs.Operands.{AllPresent, Even, Askable};
 use build::Asked;
 use build::Asks;
 use build::Counts;
@@ -22,6 +20,7 @@ use parts::alternative;
 use table::Indent;
 use table::NodeNo;
 
+mod affixes;
 mod parts;
 
 // What stands in a block, and by how much it is nested. Way 0 adds, 1 subtracts.
@@ -29,6 +28,12 @@ pub struct Block {
     pub body: NodeNo,
     pub amount: Indent,
     pub way: u32,
+}
+
+// The Nil and the guard that all alternatives share.
+pub struct Shared {
+    pub none: NodeNo,
+    pub guard: NodeNo,
 }
 
 // The alternatives from `split` affixes before down to one, each in a union with what stands.
@@ -44,8 +49,13 @@ fn unions(
     n: NodeNo,
     split: usize,
 ) -> Made
-    requires { ⌜ Ready c (now table) (now text) × Hand c block shared (now prefixes) (now suffixes) × Even split (now prefixes) (now suffixes) (now nests) × (n .0 < c .nodes) ⌝ }
-    ensures { λ r. ⌜ Ran c (now (table .entry)) (now (text .entry)) (unions (counted c (now (table .entry)) (now (text .entry))) block shared (now (prefixes .entry)) (now (suffixes .entry)) (now (nests .entry)) (n .0) split) r (now (table .exit)) ⌝ }
+    requires { ⌜ Ready c (now table) (now text)
+        × AllPresent c block shared (now prefixes) (now suffixes)
+        × Even split (now prefixes) (now suffixes) (now nests)
+        × (n .0 < c .nodes) ⌝ }
+    ensures { λ r. ⌜ Runs c (now (table .entry)) (now (text .entry))
+        (λ s. unions s block shared (now (prefixes .entry)) (now (suffixes .entry)) (now (nests .entry)) (n .0) split)
+        r (now (table .exit)) ⌝ }
 {
     let mut c = c;
     let mut n = n;
@@ -87,7 +97,9 @@ fn layouts(
     nests: &[bool],
 ) -> Made
     requires { ⌜ Ready c (now table) (now text) × Askable c block (now prefixes) (now suffixes) (now nests) ⌝ }
-    ensures { λ r. ⌜ Ran c (now (table .entry)) (now (text .entry)) (layouts (counted c (now (table .entry)) (now (text .entry))) block (now (prefixes .entry)) (now (suffixes .entry)) (now (nests .entry)) (length (now (prefixes .entry)) - 1)) r (now (table .exit)) ⌝ }
+    ensures { λ r. ⌜ Runs c (now (table .entry)) (now (text .entry))
+        (λ s. layouts s block (now (prefixes .entry)) (now (suffixes .entry)) (now (nests .entry)) (length (now (prefixes .entry)) - 1))
+        r (now (table .exit)) ⌝ }
 {
     let all = prefixes.len();
     let first = c.nil(table, text);
@@ -156,8 +168,12 @@ fn placed(
     suffixes: &[u32],
     nests: &[bool],
 ) -> Made
-    requires { ⌜ Ready c (now table) (now text) × Askable c block (now prefixes) (now suffixes) (now nests) × (c .nodes + 3 ≤ 1024) ⌝ }
-    ensures { λ r. ⌜ outcome r (now (table .exit)) (now (text .entry)) ≡ made c (now (table .entry)) (now (text .entry)) true true true (λ s. layouts s block (now (prefixes .entry)) (now (suffixes .entry)) (now (nests .entry)) (length (now (prefixes .entry)) - 1)) ⌝ }
+    requires { ⌜ Ready c (now table) (now text)
+        × Askable c block (now prefixes) (now suffixes) (now nests)
+        × (c .nodes + 3 ≤ 1024) ⌝ }
+    ensures { λ r. ⌜ outcome r (now (table .exit)) (now (text .entry))
+        ≡ made c (now (table .entry)) (now (text .entry)) true true true
+        (λ s. layouts s block (now (prefixes .entry)) (now (suffixes .entry)) (now (nests .entry)) (length (now (prefixes .entry)) - 1)) ⌝ }
 {
     let mut own = [0u32; 4096];
     let used = c.nodes as usize * 4;
@@ -211,7 +227,12 @@ fn within(
     nests: &[bool],
 ) -> Made
     requires { ⌜ sizesRight (length (now prefixes)) (length (now suffixes)) (length (now nests)) ≡ true ⌝ }
-    ensures { λ r. ⌜ outcome r (now (table .exit)) (now (text .entry)) ≡ made c (now (table .entry)) (now (text .entry)) (operands c block (now (prefixes .entry)) (now (suffixes .entry))) (nestRight (block .amount .0) (block .way)) true (λ s. blockOf s block (now (prefixes .entry)) (now (suffixes .entry)) (now (nests .entry))) ⌝ }
+    ensures { λ r. ⌜ outcome r (now (table .exit)) (now (text .entry))
+        ≡ made c (now (table .entry)) (now (text .entry))
+        (operands c block (now (prefixes .entry)) (now (suffixes .entry)))
+        (nestRight (block .amount .0) (block .way))
+        true
+        (λ s. blockOf s block (now (prefixes .entry)) (now (suffixes .entry)) (now (nests .entry))) ⌝ }
 {
     let body = block.body;
     let amount = block.amount;
@@ -250,7 +271,9 @@ impl Block {
         suffixes: &[u32],
         nests: &[bool],
     ) -> Made
-        ensures { λ r. ⌜ outcome r (now (table .exit)) (now (text .entry)) ≡ formatMade c (now (table .entry)) (now (text .entry)) self (now (prefixes .entry)) (now (suffixes .entry)) (now (nests .entry)) ⌝ }
+        ensures { λ r. ⌜ outcome r (now (table .exit)) (now (text .entry))
+            ≡ formatMade c (now (table .entry)) (now (text .entry))
+            self (now (prefixes .entry)) (now (suffixes .entry)) (now (nests .entry)) ⌝ }
     {
         if sizes_right(prefixes.len(), suffixes.len(), nests.len()) {
             return within(c, table, text, self, prefixes, suffixes, nests);

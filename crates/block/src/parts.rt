@@ -1,20 +1,19 @@
-// An alternative and its Core, each a run on a table of its own: all of it, or a refusal for want of nodes (affixes/specs/Run.antt).
+// An alternative and its Core, each a run on a table of its own: all of it, or a refusal for want of nodes (specs/Run.antt).
 ghost use mathlib.Core.Path.{_≡_};
 ghost use mathlib.Core.Bool.{true};
 ghost use Prim.Native.Nat.{_<_};
 ghost use lib.ListN.{length};
-ghost use Rattle.build.specs.Draft.{counted};
 ghost use Rattle.build.specs.Constructors.{hasAll};
-ghost use Rattle.affixes.specs.Run.{Ready, Shares, Ran};
 ghost use Rattle.block.specs.Block.{nested, core, wrap, wraps, alternative};
-ghost use Rattle.block.specs.Run.{Bodied, Hand, Even};
+ghost use Rattle.block.specs.Run.{Ready, Shares, Runs};
+ghost use Rattle.block.specs.Operands.{Bodied, AllPresent, Even};
 use crate::Block;
-use affixes::Shared;
-use affixes::bare;
-use affixes::guarded;
-use affixes::head;
-use affixes::list;
-use affixes::tail;
+use crate::Shared;
+use crate::affixes::bare;
+use crate::affixes::guarded;
+use crate::affixes::head;
+use crate::affixes::list;
+use crate::affixes::tail;
 use build::Counts;
 use build::Made;
 use table::NodeNo;
@@ -29,7 +28,9 @@ pub fn nested(
     flag: bool,
 ) -> Made
     requires { ⌜ Ready c (now table) (now text) × Bodied c block × (n .0 < c .nodes) ⌝ }
-    ensures { λ r. ⌜ Ran c (now (table .entry)) (now (text .entry)) (nested (counted c (now (table .entry)) (now (text .entry))) block (n .0) flag) r (now (table .exit)) ⌝ }
+    ensures { λ r. ⌜ Runs c (now (table .entry)) (now (text .entry))
+        (λ s. nested s block (n .0) flag)
+        r (now (table .exit)) ⌝ }
 {
     let amount = block.amount;
     if flag {
@@ -49,7 +50,9 @@ pub fn core(
     after: &[u32],
 ) -> Made
     requires { ⌜ Ready c (now table) (now text) × Bodied c block × Shares c shared × (hasAll c (now after) ≡ true) ⌝ }
-    ensures { λ r. ⌜ Ran c (now (table .entry)) (now (text .entry)) (core (counted c (now (table .entry)) (now (text .entry))) block shared asked (now (after .entry))) r (now (table .exit)) ⌝ }
+    ensures { λ r. ⌜ Runs c (now (table .entry)) (now (text .entry))
+        (λ s. core s block shared asked (now (after .entry)))
+        r (now (table .exit)) ⌝ }
 {
     let body = block.body;
     let none = shared.none;
@@ -79,7 +82,9 @@ pub fn wrap(
     flag: bool,
 ) -> Made
     requires { ⌜ Ready c (now table) (now text) × Bodied c block × (n .0 < c .nodes) × (prefix .0 < c .nodes) ⌝ }
-    ensures { λ r. ⌜ Ran c (now (table .entry)) (now (text .entry)) (wrap (counted c (now (table .entry)) (now (text .entry))) block (n .0) (prefix .0) flag) r (now (table .exit)) ⌝ }
+    ensures { λ r. ⌜ Runs c (now (table .entry)) (now (text .entry))
+        (λ s. wrap s block (n .0) (prefix .0) flag)
+        r (now (table .exit)) ⌝ }
 {
     let first = c.append(table, text, prefix, n);
     let Made::Node(c, n) = first else {
@@ -102,8 +107,14 @@ pub fn wraps(
     prefixes: &[u32],
     nests: &[bool],
 ) -> Made
-    requires { ⌜ Ready c (now table) (now text) × Bodied c block × (n .0 < c .nodes) × (hasAll c (now prefixes) ≡ true) × (length (now nests) ≡ length (now prefixes)) ⌝ }
-    ensures { λ r. ⌜ Ran c (now (table .entry)) (now (text .entry)) (wraps (counted c (now (table .entry)) (now (text .entry))) block (n .0) (now (prefixes .entry)) (now (nests .entry))) r (now (table .exit)) ⌝ }
+    requires { ⌜ Ready c (now table) (now text)
+        × Bodied c block
+        × (n .0 < c .nodes)
+        × (hasAll c (now prefixes) ≡ true)
+        × (length (now nests) ≡ length (now prefixes)) ⌝ }
+    ensures { λ r. ⌜ Runs c (now (table .entry)) (now (text .entry))
+        (λ s. wraps s block (n .0) (now (prefixes .entry)) (now (nests .entry)))
+        r (now (table .exit)) ⌝ }
 {
     let mut c = c;
     let mut n = n;
@@ -132,8 +143,12 @@ pub fn alternative(
     nests: &[bool],
     split: usize,
 ) -> Made
-    requires { ⌜ Ready c (now table) (now text) × Hand c block shared (now prefixes) (now suffixes) × Even split (now prefixes) (now suffixes) (now nests) ⌝ }
-    ensures { λ r. ⌜ Ran c (now (table .entry)) (now (text .entry)) (alternative (counted c (now (table .entry)) (now (text .entry))) block shared (now (prefixes .entry)) (now (suffixes .entry)) (now (nests .entry)) split) r (now (table .exit)) ⌝ }
+    requires { ⌜ Ready c (now table) (now text)
+        × AllPresent c block shared (now prefixes) (now suffixes)
+        × Even split (now prefixes) (now suffixes) (now nests) ⌝ }
+    ensures { λ r. ⌜ Runs c (now (table .entry)) (now (text .entry))
+        (λ s. alternative s block shared (now (prefixes .entry)) (now (suffixes .entry)) (now (nests .entry)) split)
+        r (now (table .exit)) ⌝ }
 {
     let first = head(c, table, text, shared, &prefixes[..split]);
     let Made::Node(c, front) = first else {

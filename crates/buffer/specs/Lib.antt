@@ -2,3 +2,5 @@
 pub mod Run
 pub mod Utf8
 pub mod Reader
+pub mod Parts
+pub mod Placing

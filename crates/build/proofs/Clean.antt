@@ -1,6 +1,6 @@
 -- Sheets without a fault, and what their nodes unfold to.
 --     Clean            counts are right, and no counted node has a fault
---     clean-old        old nodes have no fault in a sheet that grew; old-doc: and the same documents
+--     clean-old        old nodes have no fault in a draft that grew; old-doc: and the same documents
 --     clean-add        one node more without a fault; new-doc: what it unfolds to
 -- Assumes nothing.
 use Prim.Native.Nat.{ℕ, suc, _+_, _<_}
@@ -41,7 +41,8 @@ sound-at {s} c n h = sound-of (s .table) (s .text) n (c .faults n h)
 -- a Text's range and bytes, with bytes behind them
 text-longer : (text more : List ℕ) (a b c : ℕ) → TextRight text a b c → TextRight (text ++ more) a b c
 text-longer text more a b c r =
-    let same : take b (drop a (text ++ more)) ≡ take b (drop a text) = part-same (length text) a b (text ++ more) text (take-append-seam text more ∙ sym (take-length text)) (r .inside) in
+    let same : take b (drop a (text ++ more)) ≡ take b (drop a text) =
+    part-same (length text) a b (text ++ more) text (take-append-seam text more ∙ sym (take-length text)) (r .inside) in
     record { inside = simp length-append (let i = r .inside in omega arith); utf8 = rw same (r .utf8); below128 = λ e. r .below128 (rw same at e); columns = r .columns }
 
 node-longer : (text more : List ℕ) (n k a b c : ℕ) → NodeRight text n k a b c → NodeRight (text ++ more) n k a b c
@@ -101,4 +102,6 @@ module _ (s : Draft) (k a b d : ℕ) (c : Clean s) (right : faultOf (s .text) (s
   pub new-doc : docOf (add s k a b d .draft) (s .counts .nodes) ≡ doc (treeOf (s .text) (tree (add s k a b d .draft .table) (s .text)) (s .counts .nodes) (nodeOf k a b d))
   new-doc =
       let t = add s k a b d .draft in
-      ap doc (tree-node (t .table) (s .text) (s .counts .nodes) (length (s .text)) (sound-at clean-add (s .counts .nodes) (omega arith)) ∙ ap (treeOf (s .text) (tree (t .table) (s .text)) (s .counts .nodes)) node-new)
+      ap doc
+      (tree-node (t .table) (s .text) (s .counts .nodes) (length (s .text)) (sound-at clean-add (s .counts .nodes) (omega arith))
+      ∙ ap (treeOf (s .text) (tree (t .table) (s .text)) (s .counts .nodes)) node-new)

@@ -1,4 +1,4 @@
--- What Text and the composed constructors make of a sheet without a fault, part by part.
+-- What Text and the composed constructors make of a draft without a fault, part by part.
 --     text-makes, space-makes, line-makes, line₀-makes, softline-makes, softline₀-makes
 --     hang-makes, indent-makes, enclose-makes, joined-makes, concat-makes, intersperse-makes
 -- Assumes nothing.
@@ -45,7 +45,8 @@ module _ {s : Draft} (c : Clean s) where
     letters-makes : Makes s (add longer 6 (s .counts .bytes) (length bytes) columns) (text bytes columns)
     unfolding faultOf kindAt kinds doc
     letters-makes =
-        let inside : leb (s .counts .bytes + length bytes) (length (s .text ++ bytes)) ≡ true = le-leb (s .counts .bytes + length bytes) (length (s .text ++ bytes)) (simp length-append (let w = c .whole .bytes in omega arith)) in
+        let inside : leb (s .counts .bytes + length bytes) (length (s .text ++ bytes)) ≡ true =
+        le-leb (s .counts .bytes + length bytes) (length (s .text ++ bytes)) (simp length-append (let w = c .whole .bytes in omega arith)) in
         let f : faultOf (longer .text) N 6 (s .counts .bytes) (length bytes) columns ≡ 0 = rw (inside, own, right) refl in
         record {
           grown = then (write-grown s bytes) (add-grown longer 6 (s .counts .bytes) (length bytes) columns);
@@ -69,7 +70,8 @@ module _ {s : Draft} (c : Clean s) where
   -- ---- lines
 
   -- a Hardline, one node more, and FlatAlt of the two
-  either-makes : (flat : Draft → Built) (d : Doc) → ((t : Draft) → Clean t → Makes t (flat t) d) → Makes s (let b = parts.hardline s in let f = flat (b .draft) in parts.flatAlt (f .draft) (b .node) (f .node)) (flatAlt hardline d)
+  either-makes : (flat : Draft → Built) (d : Doc) → ((t : Draft) → Clean t → Makes t (flat t) d)
+      → Makes s (let b = parts.hardline s in let f = flat (b .draft) in parts.flatAlt (f .draft) (b .node) (f .node)) (flatAlt hardline d)
   either-makes flat d makes =
       let first = hardline-makes c in
       let second = makes (parts.hardline s .draft) (first .clean) in
@@ -122,7 +124,8 @@ pub docs-still : {s : Draft} {b : Built} {d : Doc} → Clean s → Makes s b d �
 docs-still c m [] b = refl
 docs-still c m (n ∷ ns) b = ap₂ (λ (x : Doc) (xs : List Doc). x ∷ xs) (still c m n (b .0)) (docs-still c m ns (b .1))
 
-pub joined-makes : {s : Draft} → Clean s → (n : ℕ) (ns : List ℕ) → n < s .counts .nodes → Below (s .counts .nodes) ns → Makes s (parts.joined s n ns) (joinedDoc (docOf s n) (map (docOf s) ns))
+pub joined-makes : {s : Draft} → Clean s → (n : ℕ) (ns : List ℕ) → n < s .counts .nodes → Below (s .counts .nodes) ns
+    → Makes s (parts.joined s n ns) (joinedDoc (docOf s n) (map (docOf s) ns))
 unfolding parts.joined joinedDoc
 joined-makes {s} c n [] h b = record { grown = same s; clean = c; present = h; unfolds = refl }
 joined-makes {s} c n (m ∷ ns) h b =
@@ -136,7 +139,8 @@ module _ {s : Draft} (c : Clean s) where
   concat-makes [] b = nil-makes c
   concat-makes (n ∷ ns) b = joined-makes c n ns (b .0) (b .1)
 
-  pub enclose-makes : (n before behind : ℕ) → Below (s .counts .nodes) (before ∷ n ∷ behind ∷ []) → Makes s (parts.enclose s n before behind) (encloseDoc (docOf s n) (docOf s before) (docOf s behind))
+  pub enclose-makes : (n before behind : ℕ) → Below (s .counts .nodes) (before ∷ n ∷ behind ∷ [])
+      → Makes s (parts.enclose s n before behind) (encloseDoc (docOf s n) (docOf s before) (docOf s behind))
   unfolding parts.enclose parts.joined joinedDoc
   enclose-makes n before behind b = joined-makes c before (n ∷ behind ∷ []) (b .0) (b .1)
 
@@ -145,7 +149,9 @@ module _ {s : Draft} (c : Clean s) where
   separated-docs n [] = refl
   separated-docs n (m ∷ ns) = ap (λ (xs : List Doc). docOf s n ∷ docOf s m ∷ xs) (separated-docs n ns)
 
-  pub intersperse-makes : (ns : List ℕ) (n : ℕ) → n < s .counts .nodes → Below (s .counts .nodes) ns → Makes s (parts.intersperse s ns n) (intersperseDoc (map (docOf s) ns) (docOf s n))
+  pub intersperse-makes : (ns : List ℕ) (n : ℕ) → n < s .counts .nodes → Below (s .counts .nodes) ns
+      → Makes s (parts.intersperse s ns n) (intersperseDoc (map (docOf s) ns) (docOf s n))
   unfolding parts.intersperse intersperseDoc
   intersperse-makes [] n h b = nil-makes c
-  intersperse-makes (m ∷ ns) n h b = meaning (ap (joinedDoc (docOf s m)) (separated-docs n ns)) (joined-makes c m (parts.separated n ns) (b .0) (below-separated n ns h (b .1)))
+  intersperse-makes (m ∷ ns) n h b =
+      meaning (ap (joinedDoc (docOf s m)) (separated-docs n ns)) (joined-makes c m (parts.separated n ns) (b .0) (below-separated n ns h (b .1)))

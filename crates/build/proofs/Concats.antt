@@ -2,7 +2,7 @@
 --     join-made                              the whole, whatever list it joins
 --     concat-is .. concat-end                the list as it stands
 -- Assumes nothing.
-use Prim.Native.Nat.{ℕ, suc, _+_, _-_, _*_, _/_, _≤_, _<_}
+use Prim.Native.Nat.{ℕ, suc, _+_, _-_, _*_, _≤_, _<_}
 use native.Mathlib.Omega.{arith}
 use native.Mathlib.Numerals.{add-one}
 use native.Mathlib.Nat.{add-zero, not-suc-le-zero}
@@ -24,24 +24,26 @@ use Rattle.build.specs.Outcome.{asked, answered, outcome, onward, made}
 use Rattle.build.specs.Constructors.{hasAll, nilMade, appendMade, concatMade}
 use Rattle.build.proofs.Grow.{joined-grown}
 use Rattle.build.proofs.Joins.{Below, below-of, joined-counts, Along, along-start, joinAll, join-on, join-whole}
-use Rattle.build.proofs.Stand.{start, refuse, Begun, begin}
+use Rattle.build.proofs.Stand.{ComesTo, start, refuse, Begun, begin}
 
 -- ---- the whole, whatever list it joins
 
-module _ (c : Counts) (table text : List ℕ) (present : Bool) (whole : Draft → Built) (first : ℕ) (rest : List ℕ) (is : joined (counted c table text) first rest ≡ whole (counted c table text)) (operands : present ≡ true → Below (c .nodes) (first ∷ rest)) where
+module _ (c : Counts) (table text : List ℕ) (present : Bool) (whole : Draft → Built) (first : ℕ) (rest : List ℕ)
+    (is : joined (counted c table text) first rest ≡ whole (counted c table text)) (operands : present ≡ true → Below (c .nodes) (first ∷ rest)) where
   abbrev s₀ : Draft
   s₀ = counted c table text
 
   abbrev joins : ℕ
   joins = solid (s₀ .table) (first ∷ rest) - 1
 
-  right-counts : c .nodes ≤ length table / 4 → c .bytes ≤ length text → present ≡ true → (whole s₀ .draft .counts .nodes ≡ c .nodes + joins) × (whole s₀ .draft .counts .bytes ≡ c .bytes + 0)
+  right-counts : ComesTo c table text present whole (c .nodes + joins) (c .bytes + 0)
   unfolding counted
   right-counts n b p =
       let e = joined-counts s₀ first rest (start c table text n b .whole) (operands p .0) (operands p .1) in
       rw (← is) (e .0, e .1 ∙ sym (add-zero (c .bytes)))
 
-  join-refused : (why : Why) → asked c (length table) (length text) present true true (c .nodes + joins) (c .bytes + 0) ≡ Denied why → outcome (Refused why) table text ≡ made c table text present true true whole
+  join-refused : (why : Why) → asked c (length table) (length text) present true true (c .nodes + joins) (c .bytes + 0) ≡ Denied why
+      → outcome (Refused why) table text ≡ made c table text present true true whole
   join-refused why d = refuse c table text present true true whole _ _ right-counts why d
 
   module _ (granted : asked c (length table) (length text) present true true (c .nodes + joins) (c .bytes + 0) ≡ Granted) where
@@ -52,8 +54,11 @@ module _ (c : Counts) (table text : List ℕ) (present : Bool) (whole : Draft �
     join-start = along-start join-begun first rest (operands (join-begun .facts .operands) .0) is
 
   -- the loop, from the first node
-  pub join-made : {m : Made} → m ≡ answered (asked c (length table) (length text) present true true (c .nodes + joins) (c .bytes + 0)) (Node c (record { 0 = first })) → joinAll m table text rest ≡ made c table text present true true whole
-  join-made e = join-whole (asked c (length table) (length text) present true true (c .nodes + joins) (c .bytes + 0)) (record { 0 = first }) rest join-refused (λ g. (join-begun g, operands (join-begun g .facts .operands) .1, join-start g)) e
+  pub join-made : {m : Made} → m ≡ answered (asked c (length table) (length text) present true true (c .nodes + joins) (c .bytes + 0)) (Node c (record { 0 = first }))
+      → joinAll m table text rest ≡ made c table text present true true whole
+  join-made e =
+      join-whole (asked c (length table) (length text) present true true (c .nodes + joins) (c .bytes + 0)) (record { 0 = first }) rest join-refused
+      (λ g. (join-begun g, operands (join-begun g .facts .operands) .1, join-start g)) e
 
 -- ---- the list as it stands
 
@@ -76,7 +81,8 @@ module _ (c : Counts) (table text ns : List ℕ) (some : 0 < length ns) where
   abbrev concat-asked : ℕ → Asked
   concat-asked joins = asked c (length table) (length text) (hasAll c ns) true true (c .nodes + joins) (c .bytes + 0)
 
-  pub concat-made : {m : Made} → m ≡ answered (concat-asked (solid (take (c .nodes * 4) table) ns - 1)) (Node c (record { 0 = getD ns 0 0 })) → joinAll m table text (drop 1 ns) ≡ concatMade c table text ns
+  pub concat-made : {m : Made} → m ≡ answered (concat-asked (solid (take (c .nodes * 4) table) ns - 1)) (Node c (record { 0 = getD ns 0 0 }))
+      → joinAll m table text (drop 1 ns) ≡ concatMade c table text ns
   unfolding counted
   concat-made e =
       let head = ap (λ (l : List ℕ). answered (concat-asked (solid (take (c .nodes * 4) table) l - 1)) (Node c (record { 0 = getD ns 0 0 }))) (head-is ns some) in
@@ -89,7 +95,9 @@ concat-none c table text [] e = refl
 concat-none c table text (n ∷ ns) e = absurd (omega arith)
 
 -- one turn of the loop
-pub concat-turn : (m : Made) (table text : List ℕ) {r : Made} {table′ : List ℕ} (ns : List ℕ) (i : ℕ) → i < length ns → outcome r table′ text ≡ onward m table text (λ c n. appendMade c table text n (getD ns i 0)) → joinAll r table′ text (drop (i + 1) ns) ≡ joinAll m table text (drop i ns)
+pub concat-turn : (m : Made) (table text : List ℕ) {r : Made} {table′ : List ℕ} (ns : List ℕ) (i : ℕ) → i < length ns
+    → outcome r table′ text ≡ onward m table text (λ c n. appendMade c table text n (getD ns i 0))
+    → joinAll r table′ text (drop (i + 1) ns) ≡ joinAll m table text (drop i ns)
 concat-turn m table text ns i h o = rw (drop-cons ns i 0 h) (rw add-one (join-on m table text (getD ns i 0) (drop (suc i) ns) o))
 
 -- nothing is left

@@ -1,6 +1,6 @@
--- A sheet only grows: what each part adds stands behind what was there.
+-- A draft only grows: what each part adds stands behind what was there.
 --     Whole       counts say how long table and text are
---     Grown       one sheet is another with words and bytes behind it; same, then (transitive), whole-grown
+--     Grown       one draft is another with words and bytes behind it; same, then (transitive), whole-grown
 --     add-grown .. intersperse-grown   each part
 -- Assumes nothing.
 use Prim.Native.Nat.{ℕ, _+_, _*_, _≤_}
@@ -20,7 +20,7 @@ pub record Whole (s : Draft) : Type 0 where
   pub words : length (s .table) ≡ s .counts .nodes * 4
   pub bytes : length (s .text) ≡ s .counts .bytes
 
--- a sheet, and words and bytes behind it
+-- a draft, and words and bytes behind it
 pub record Grown (s s′ : Draft) : Type 0 where
   pub words : List ℕ
   pub more : List ℕ

@@ -1,5 +1,5 @@
 -- Blanks, Append and hang, part by part: `indent`. Assumes nothing.
-use Prim.Native.Nat.{ℕ, zero, suc, _+_, _*_, _/_, _≤_, _<_}
+use Prim.Native.Nat.{ℕ, zero, suc, _+_, _*_, _≤_, _<_}
 use native.Mathlib.Omega.{arith}
 use mathlib.Core.Path.{_≡_, refl, sym, ap, _∙_}
 use mathlib.Core.Bool.{Bool, true, false, _||_, _&&_}
@@ -28,7 +28,7 @@ use Rattle.build.proofs.Words.{old-word, new-word, append-present}
 use Rattle.build.proofs.Choices.{append-left, append-right, append-both, text-none, text-some}
 use Rattle.build.proofs.Texts.{text-present}
 use Rattle.build.proofs.Hangs.{hang-counts}
-use Rattle.build.proofs.Stand.{start, Went, gone, taken, refuse, Begun, begin, step, finish}
+use Rattle.build.proofs.Stand.{ComesTo, start, Went, gone, taken, refuse, Begun, begin, step, finish}
 
 -- ---- blanks
 
@@ -68,7 +68,8 @@ rest-none s a n by e z =
     rw (append-left s a n e) (h ∙ ap (λ (x : ℕ). countsOf x (s .counts .bytes)) k)
 
 -- the blanks are a Text
-rest-some : (s : Draft) (a n by : ℕ) → Whole s → isNil s a ≡ false → eqb by 0 ≡ false → rest n by (older s a) .draft .counts ≡ countsOf (s .counts .nodes + pick (isNil s n) 2 3) (s .counts .bytes)
+rest-some : (s : Draft) (a n by : ℕ) → Whole s → isNil s a ≡ false → eqb by 0 ≡ false
+    → rest n by (older s a) .draft .counts ≡ countsOf (s .counts .nodes + pick (isNil s n) 2 3) (s .counts .bytes)
 unfolding rest
 rest-some s a n by w e z = go (isNil s n) refl
   where
@@ -82,7 +83,8 @@ rest-some s a n by w e z = go (isNil s n) refl
         let k : s .counts .nodes + 1 + (nestAdds (t .draft .table) (t .node) by + 1) ≡ s .counts .nodes + 3 = omega arith in
         rw (append-both s a n e q) (hang-counts (t .draft) (t .node) by 0 ∙ ap (λ (x : ℕ). countsOf x (s .counts .bytes)) k)
 
-indent-counts : (s : Draft) (n by : ℕ) → Whole s → n < s .counts .nodes → indent s n by .draft .counts ≡ countsOf (s .counts .nodes + indentAdds (s .table) n by) (s .counts .bytes + by)
+indent-counts : (s : Draft) (n by : ℕ) → Whole s → n < s .counts .nodes
+    → indent s n by .draft .counts ≡ countsOf (s .counts .nodes + indentAdds (s .table) n by) (s .counts .bytes + by)
 unfolding indent indentAdds rest
 indent-counts s n by w h = go (eqb by 0) refl
   where
@@ -102,7 +104,9 @@ indent-counts s n by w h = go (eqb by 0) refl
         let e = text-none s blanks by (ap (λ (k : ℕ). eqb k 0) size ∙ q) in
         let p : s .counts .nodes + 1 + 1 ≡ s .counts .nodes + 2 = omega arith in
         let r : s .counts .bytes ≡ s .counts .bytes + by = omega arith in
-        ap (λ (x : Built). rest n by x .draft .counts) e ∙ rest-none (nil s .draft) (nil s .node) n by (rw (new-word w (0 ∷ 0 ∷ 0 ∷ 0 ∷ []) 0) refl) q ∙ (λ i. countsOf (p i) (r i))
+        ap (λ (x : Built). rest n by x .draft .counts) e
+        ∙ rest-none (nil s .draft) (nil s .node) n by (rw (new-word w (0 ∷ 0 ∷ 0 ∷ 0 ∷ []) 0) refl) q
+        ∙ (λ i. countsOf (p i) (r i))
     go false q =
         let e = text-some s blanks by (ap (λ (k : ℕ). eqb k 0) size ∙ q) in
         let x = add (write s blanks) 6 (s .counts .bytes) (length blanks) by in
@@ -126,7 +130,7 @@ module _ (c : Counts) (table letters : List ℕ) (n by : ℕ) where
   abbrev indent-asked : Asked
   indent-asked = asked c (length table) (length letters) (has c n) (leb by 1000) true (c .nodes + indentAdds (take (c .nodes * 4) table) n by) (c .bytes + by)
 
-  right-counts : c .nodes ≤ length table / 4 → c .bytes ≤ length letters → has c n ≡ true → (indent s₀ n by .draft .counts .nodes ≡ c .nodes + indentAdds (take (c .nodes * 4) table) n by) × (indent s₀ n by .draft .counts .bytes ≡ c .bytes + by)
+  right-counts : ComesTo c table letters (has c n) (λ s. indent s n by) (c .nodes + indentAdds (take (c .nodes * 4) table) n by) (c .bytes + by)
   unfolding counted
   right-counts h b p =
       let e = indent-counts s₀ n by (start c table letters h b .whole) (ltb-true n (c .nodes) p) in
@@ -155,7 +159,8 @@ module _ (c : Counts) (table letters : List ℕ) (n by : ℕ) where
     old : n < c .nodes
     old = ltb-true n (c .nodes) (begun .facts .operands)
 
-    indent-first : {m : Made} {table′ letters′ : List ℕ} → outcome m table′ letters′ ≡ textMade c table letters (replicate by 32) by → Went table letters s₁ m table′ letters′
+    indent-first : {m : Made} {table′ letters′ : List ℕ} → outcome m table′ letters′ ≡ textMade c table letters (replicate by 32) by
+        → Went table letters s₁ m table′ letters′
     indent-first o = step begun (begun .stands) (λ s. text s (replicate by 32) by) (same s₀) grown₁ (then grown₂ grown₃) refl refl (blanks-right by) o
 
     module _ {m : Made} {table₁ letters₁ : List ℕ} (went : Went table letters s₁ m table₁ letters₁) {c₁ : Counts} {n₁ : NodeNo} (e : m ≡ Node c₁ n₁) where
@@ -167,14 +172,17 @@ module _ (c : Counts) (table letters : List ℕ) (n by : ℕ) where
       unfolding counted
       there = let l = more-nodes grown₁ in let o = old in omega arith
 
-      indent-second : {m₂ : Made} {table₂ letters₂ : List ℕ} → outcome m₂ table₂ letters₂ ≡ appendMade c₁ table₁ letters₁ (n₁ .0) n → Went table letters s₂ m₂ table₂ letters₂
+      indent-second : {m₂ : Made} {table₂ letters₂ : List ℕ} → outcome m₂ table₂ letters₂ ≡ appendMade c₁ table₁ letters₁ (n₁ .0) n
+          → Went table letters s₂ m₂ table₂ letters₂
       indent-second o =
           let t = taken went e in
           let o′ = rw (t .1) at o in
           let both : has c₁ (s₁ .node) && has c₁ n ≡ true = rw (t .0 .counts) (rw (lt-ltb _ _ blank, lt-ltb _ _ there) refl) in
           step begun (t .0) (λ s. append s (s₁ .node) n) grown₁ grown₂ grown₃ both refl refl o′
 
-      indent-last : {m₂ : Made} {table₂ letters₂ : List ℕ} → Went table letters s₂ m₂ table₂ letters₂ → {c₂ : Counts} {n₂ : NodeNo} → m₂ ≡ Node c₂ n₂ → {m₃ : Made} {table₃ letters₃ : List ℕ} → outcome m₃ table₃ letters₃ ≡ hangMade c₂ table₂ letters₂ (n₂ .0) by 0 → outcome m₃ table₃ letters₃ ≡ indentMade c table letters n by
+      indent-last : {m₂ : Made} {table₂ letters₂ : List ℕ} → Went table letters s₂ m₂ table₂ letters₂ → {c₂ : Counts} {n₂ : NodeNo} → m₂ ≡ Node c₂ n₂
+          → {m₃ : Made} {table₃ letters₃ : List ℕ} → outcome m₃ table₃ letters₃ ≡ hangMade c₂ table₂ letters₂ (n₂ .0) by 0
+          → outcome m₃ table₃ letters₃ ≡ indentMade c table letters n by
       unfolding indent
       indent-last went₂ {c₂} e₂ o =
           let t = taken went₂ e₂ in
@@ -183,17 +191,22 @@ module _ (c : Counts) (table letters : List ℕ) (n by : ℕ) where
           let right : nestRight by 0 ≡ true = rw (le-leb by 1000 indent-by) refl in
           finish begun (step begun (t .0) (λ s. hang s (s₂ .node) by 0) (then grown₁ grown₂) grown₃ (same (indent s₀ n by .draft)) present right refl o′)
 
-    indent-made : (m₁ : Made) (table₁ letters₁ : List ℕ) → outcome m₁ table₁ letters₁ ≡ textMade c table letters (replicate by 32) by → (m₂ : Made) (table₂ letters₂ : List ℕ) → outcome m₂ table₂ letters₂ ≡ onward m₁ table₁ letters₁ (λ c₁ n₁. appendMade c₁ table₁ letters₁ n₁ n)
-        → {m₃ : Made} {table₃ letters₃ : List ℕ} → outcome m₃ table₃ letters₃ ≡ onward m₂ table₂ letters₂ (λ c₂ n₂. hangMade c₂ table₂ letters₂ n₂ by 0) → outcome m₃ table₃ letters₃ ≡ indentMade c table letters n by
+    indent-made : (m₁ : Made) (table₁ letters₁ : List ℕ) → outcome m₁ table₁ letters₁ ≡ textMade c table letters (replicate by 32) by
+        → (m₂ : Made) (table₂ letters₂ : List ℕ) → outcome m₂ table₂ letters₂ ≡ onward m₁ table₁ letters₁ (λ c₁ n₁. appendMade c₁ table₁ letters₁ n₁ n)
+        → {m₃ : Made} {table₃ letters₃ : List ℕ} → outcome m₃ table₃ letters₃ ≡ onward m₂ table₂ letters₂ (λ c₂ n₂. hangMade c₂ table₂ letters₂ n₂ by 0)
+        → outcome m₃ table₃ letters₃ ≡ indentMade c table letters n by
     indent-made m₁ table₁ letters₁ o₁ m₂ table₂ letters₂ o₂ o₃ =
         let w₁ = indent-first o₁ in
         let w₂ = indent-second w₁ (w₁ .answer) (o₂ ∙ gone w₁ (λ c₁ n₁. appendMade c₁ table₁ letters₁ n₁ n)) in
         indent-last w₁ (w₁ .answer) w₂ (w₂ .answer) (o₃ ∙ gone w₂ (λ c₂ n₂. hangMade c₂ table₂ letters₂ n₂ by 0))
 
     -- the blanks' refusal is handed on; of their node the rest goes on
-    pub indent-handed-on : (m₁ : Made) (table₁ letters₁ : List ℕ) → outcome m₁ table₁ letters₁ ≡ textMade c table letters (replicate by 32) by → {why : Why} → m₁ ≡ Refused why → outcome m₁ table₁ letters₁ ≡ indentMade c table letters n by
+    pub indent-handed-on : (m₁ : Made) (table₁ letters₁ : List ℕ) → outcome m₁ table₁ letters₁ ≡ textMade c table letters (replicate by 32) by → {why : Why}
+        → m₁ ≡ Refused why → outcome m₁ table₁ letters₁ ≡ indentMade c table letters n by
     indent-handed-on m₁ table₁ letters₁ o₁ e = indent-made m₁ table₁ letters₁ o₁ m₁ table₁ letters₁ (rw e refl) (rw e refl)
 
-    pub indent-went-on : (m₁ : Made) (table₁ letters₁ : List ℕ) → outcome m₁ table₁ letters₁ ≡ textMade c table letters (replicate by 32) by → {c₁ : Counts} {n₁ : NodeNo} → m₁ ≡ Node c₁ n₁ → (m₂ : Made) (table₂ letters₂ : List ℕ) → outcome m₂ table₂ letters₂ ≡ appendMade c₁ table₁ letters₁ (n₁ .0) n
-        → {m₃ : Made} {table₃ letters₃ : List ℕ} → outcome m₃ table₃ letters₃ ≡ onward m₂ table₂ letters₂ (λ c₂ n₂. hangMade c₂ table₂ letters₂ n₂ by 0) → outcome m₃ table₃ letters₃ ≡ indentMade c table letters n by
+    pub indent-went-on : (m₁ : Made) (table₁ letters₁ : List ℕ) → outcome m₁ table₁ letters₁ ≡ textMade c table letters (replicate by 32) by → {c₁ : Counts} {n₁ : NodeNo}
+        → m₁ ≡ Node c₁ n₁ → (m₂ : Made) (table₂ letters₂ : List ℕ) → outcome m₂ table₂ letters₂ ≡ appendMade c₁ table₁ letters₁ (n₁ .0) n
+        → {m₃ : Made} {table₃ letters₃ : List ℕ} → outcome m₃ table₃ letters₃ ≡ onward m₂ table₂ letters₂ (λ c₂ n₂. hangMade c₂ table₂ letters₂ n₂ by 0)
+        → outcome m₃ table₃ letters₃ ≡ indentMade c table letters n by
     indent-went-on m₁ table₁ letters₁ o₁ e m₂ table₂ letters₂ o₂ o₃ = indent-made m₁ table₁ letters₁ o₁ m₂ table₂ letters₂ (rw e o₂) o₃

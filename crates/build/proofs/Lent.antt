@@ -19,13 +19,15 @@ use Rattle.build.specs.declared.Counts.{Counts}
 use Rattle.build.specs.Promise.{ValidSoFar, docAt}
 
 -- a node that ends in a front that two tables share
-fault-front : (m n : ℕ) (table table′ text : List ℕ) → n * 4 + 4 ≤ m → take m table ≡ take m table′ → faultAt table text n ≡ 0 → NodeRight text n (word table′ n 0) (word table′ n 1) (word table′ n 2) (word table′ n 3)
+fault-front : (m n : ℕ) (table table′ text : List ℕ) → n * 4 + 4 ≤ m → take m table ≡ take m table′ → faultAt table text n ≡ 0
+    → NodeRight text n (word table′ n 0) (word table′ n 1) (word table′ n 2) (word table′ n 3)
 unfolding faultAt
 fault-front m n table table′ text h e f =
     let w : (i : ℕ) → i < 4 → word table n i ≡ word table′ n i = λ i l. word-same m n i table table′ (omega arith) e in
     rw (w 0 (omega arith), w 1 (omega arith), w 2 (omega arith), w 3 (omega arith)) at (right-of text n _ _ _ _ f)
 
-module _ (c : Counts) (table text : List ℕ) (valid : ValidSoFar c table text) (nodes-inside : c .nodes * 4 ≤ length table) (bytes-inside : c .bytes ≤ length text) (n : ℕ) (h : n < c .nodes) where
+module _ (c : Counts) (table text : List ℕ) (valid : ValidSoFar c table text) (nodes-inside : c .nodes * 4 ≤ length table) (bytes-inside : c .bytes ≤ length text)
+    (n : ℕ) (h : n < c .nodes) where
   abbrev counted : List ℕ
   counted = take (c .nodes * 4) table
 
@@ -56,7 +58,8 @@ module _ (c : Counts) (table text : List ℕ) (valid : ValidSoFar c table text) 
         fours = rw front-length (omega arith);
         words = rw front-length (omega arith);
         bytes = rw (length-take-le (c .bytes) text bytes-inside) short;
-        nodes = λ m l. let k : m < n + 1 = let e = front-length in omega arith in fault-front (n * 4 + 4) m counted front used (omega arith) same-front (no-fault m (omega arith));
+        nodes =
+            λ m l. let k : m < n + 1 = let e = front-length in omega arith in fault-front (n * 4 + 4) m counted front used (omega arith) same-front (no-fault m (omega arith));
       })
 
   pub lent-doc : doc (tree front used n) ≡ docAt c table text n

@@ -5,6 +5,7 @@ pub mod Stand
 mod Runs
 mod Words
 mod Choices
+mod Stays
 mod Leaf
 mod Texts
 mod Lines

@@ -1,5 +1,5 @@
 -- FlatAlt of a Hardline and one node more, part by part: `line` with a blank, `line_` with Nil. Assumes nothing.
-use Prim.Native.Nat.{ℕ, _+_, _/_, _≤_}
+use Prim.Native.Nat.{ℕ, _+_, _≤_}
 use native.Mathlib.Omega.{arith}
 use native.Mathlib.Nat.{add-zero}
 use mathlib.Core.Path.{_≡_, refl, sym, ap, _∙_}
@@ -20,7 +20,7 @@ use Rattle.build.specs.Outcome.{Outcome, asked, outcome, onward, settled
 use Rattle.build.specs.Constructors.{has, plainMade, flatAltMade}
 use Rattle.build.proofs.Grow.{Grown, same, then, add-grown, text-grown}
 use Rattle.build.proofs.Room.{stretch, allowed, granted}
-use Rattle.build.proofs.Stand.{Went, gone, taken, settle, Begun, begin, step, first-went, finish, first-denied, first-granted}
+use Rattle.build.proofs.Stand.{ComesTo, Went, gone, taken, settle, Begun, begin, step, first-went, finish, first-denied, first-granted}
 
 -- one node and k bytes
 pub record One (flat : Draft → Built) (k : ℕ) : Type 0 where
@@ -51,7 +51,7 @@ module _ (c : Counts) (table text : List ℕ) {flat : Draft → Built} {k : ℕ}
   abbrev s₂ : Draft
   s₂ = flat s₁ .draft
 
-  right-counts : c .nodes ≤ length table / 4 → c .bytes ≤ length text → true ≡ true → (whole s₀ .draft .counts .nodes ≡ c .nodes + 3) × (whole s₀ .draft .counts .bytes ≡ c .bytes + k)
+  right-counts : ComesTo c table text true whole (c .nodes + 3) (c .bytes + k)
   unfolding counted
   right-counts n b t =
       let e = one .counts s₁ in
@@ -76,14 +76,18 @@ module _ (c : Counts) (table text : List ℕ) {flat : Draft → Built} {k : ℕ}
             let d = ap (λ (x : Counts). x .nodes) (taken went₂ e₂ .0 .counts ∙ one .counts s₁) in
             rw (lt-ltb (c .nodes) (c₂ .nodes) (omega arith), lt-ltb (flat s₁ .node) (c₂ .nodes) (omega arith)) refl
 
-        line-last : {m₃ : Made} {table₃ text₃ : List ℕ} → outcome m₃ table₃ text₃ ≡ flatAltMade c₂ table₂ text₂ (n₁ .0) (n₂ .0) → outcome m₃ table₃ text₃ ≡ plainMade c table text whole
+        line-last : {m₃ : Made} {table₃ text₃ : List ℕ} → outcome m₃ table₃ text₃ ≡ flatAltMade c₂ table₂ text₂ (n₁ .0) (n₂ .0)
+            → outcome m₃ table₃ text₃ ≡ plainMade c table text whole
         line-last o =
             let o′ = rw (taken went e .1, taken went₂ e₂ .1) at o in
-            finish begun (step begun (taken went₂ e₂ .0) (λ s. flatAlt s (hardline s₀ .node) (flat s₁ .node)) (then (add-grown s₀ 5 0 0 0) (one .grows s₁)) last (same (whole s₀ .draft)) operands refl refl o′)
+            finish begun
+            (step begun (taken went₂ e₂ .0) (λ s. flatAlt s (hardline s₀ .node) (flat s₁ .node)) (then (add-grown s₀ 5 0 0 0) (one .grows s₁)) last
+            (same (whole s₀ .draft)) operands refl refl o′)
 
   -- ---- with its first part so many nodes are asked for
 
-  pub line-alone : {r : Outcome} → r ≡ settled (asked c (length table) (length text) true true true (c .nodes + 3) (c .bytes + k)) (whole s₀) table text → r ≡ plainMade c table text whole
+  pub line-alone : {r : Outcome} → r ≡ settled (asked c (length table) (length text) true true true (c .nodes + 3) (c .bytes + k)) (whole s₀) table text
+      → r ≡ plainMade c table text whole
   line-alone e = e ∙ settle c table text true true true whole (c .nodes + 3) (c .bytes + k) right-counts
 
   module _ (nodes : ℕ) (enough : 3 ≤ nodes) where
@@ -108,10 +112,13 @@ module _ (c : Counts) (table text : List ℕ) {flat : Draft → Built} {k : ℕ}
       line-refused e = first-denied line-asked (hardline s₀) table text o₁ (λ why q. rw q refl) e
 
       pub line-made : {c₁ : Counts} {n₁ : NodeNo} → m ≡ Node c₁ n₁ → (m₂ : Made) (table₂ text₂ : List ℕ) → outcome m₂ table₂ text₂ ≡ plainMade c₁ table₁ text₁ flat
-          → {m₃ : Made} {table₃ text₃ : List ℕ} → outcome m₃ table₃ text₃ ≡ onward m₂ table₂ text₂ (λ c₂ n₂. flatAltMade c₂ table₂ text₂ (n₁ .0) n₂) → outcome m₃ table₃ text₃ ≡ settled line-asked (whole s₀) table text
+          → {m₃ : Made} {table₃ text₃ : List ℕ} → outcome m₃ table₃ text₃ ≡ onward m₂ table₂ text₂ (λ c₂ n₂. flatAltMade c₂ table₂ text₂ (n₁ .0) n₂)
+          → outcome m₃ table₃ text₃ ≡ settled line-asked (whole s₀) table text
       line-made {c₁} {n₁} e m₂ table₂ text₂ o₂ o₃ =
           let g = first-granted line-asked (hardline s₀) table text o₁ e in
           let g₃ = fewer (g .0) in
           let went = first-went (begun g₃) (hardline s₀) (add-grown s₀ 5 0 0 0) (then (one .grows s₁) (last g₃)) (g .1) in
           let went₂ = line-second g₃ went e o₂ in
-          line-last g₃ went e went₂ (went₂ .answer) (o₃ ∙ gone went₂ (λ c₂ n₂. flatAltMade c₂ table₂ text₂ (n₁ .0) n₂)) ∙ begun g₃ .whole ∙ ap (λ (a : Asked). settled a (whole s₀) table text) (sym (g .0))
+          line-last g₃ went e went₂ (went₂ .answer) (o₃ ∙ gone went₂ (λ c₂ n₂. flatAltMade c₂ table₂ text₂ (n₁ .0) n₂))
+          ∙ begun g₃ .whole
+          ∙ ap (λ (a : Asked). settled a (whole s₀) table text) (sym (g .0))

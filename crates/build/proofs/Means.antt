@@ -1,5 +1,5 @@
--- What each part makes of a sheet without a fault: one without a fault, and a node that unfolds to its document.
---     Makes                  the sheet grew without a fault, and the node unfolds to d
+-- What each part makes of a draft without a fault: one without a fault, and a node that unfolds to its document.
+--     Makes                  the draft grew without a fault, and the node unfolds to d
 --     nil-makes .. text-makes        one node; each asks that its operands are there and its words are right
 --     line-makes .. intersperse-makes   composed
 -- Assumes nothing.
@@ -28,7 +28,7 @@ pub record Makes (s : Draft) (b : Built) (d : Doc) : Type 0 where
   pub present : b .node < b .draft .counts .nodes
   pub unfolds : docOf (b .draft) (b .node) ≡ d
 
--- a sheet that was made keeps the older nodes and their documents
+-- a draft that was made keeps the older nodes and their documents
 pub there : {s : Draft} {b : Built} {d : Doc} → Makes s b d → {n : ℕ} → n < s .counts .nodes → n < b .draft .counts .nodes
 there m h = let g = more-nodes (m .grown) in omega arith
 
@@ -56,7 +56,7 @@ module _ {s : Draft} (c : Clean s) where
   add-makes : (k a b e : ℕ) (d : Doc) → faultOf (s .text) N k a b e ≡ 0 → docOf (add s k a b e .draft) N ≡ d → Makes s (add s k a b e) d
   add-makes k a b e d f u = record { grown = add-grown s k a b e; clean = clean-add s k a b e c f; present = omega arith; unfolds = u }
 
-  -- an older node in the sheet with one node more
+  -- an older node in the draft with one node more
   kept : (k a b e n : ℕ) → n < N → doc (tree (add s k a b e .draft .table) (s .text) n) ≡ docOf s n
   kept k a b e n h = old-doc c (add-grown s k a b e) n h
 
@@ -95,7 +95,8 @@ module _ {s : Draft} (c : Clean s) where
     unfolding faultOf kindAt kinds doc
     nested-makes amount way p q =
         let f : faultOf (s .text) N 4 n amount way ≡ 0 = rw (lt-ltb n N h, le-leb amount 1000 p, le-leb way 1 q) refl in
-        add-makes 4 n amount way (nest (docOf s n) amount (wayOf way)) f (new-doc s 4 n amount way c f ∙ ap (λ (x : Doc). nest x amount (wayOf way)) (kept 4 n amount way n h))
+        add-makes 4 n amount way (nest (docOf s n) amount (wayOf way)) f
+        (new-doc s 4 n amount way c f ∙ ap (λ (x : Doc). nest x amount (wayOf way)) (kept 4 n amount way n h))
 
     pub group-makes : Makes s (parts.group s n) (groupDoc (docOf s n))
     unfolding parts.group groupDoc

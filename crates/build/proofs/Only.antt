@@ -81,15 +81,18 @@ concat-adds s (n ∷ ns) b = joined-adds s n ns (b .0) (b .1)
 
 -- ---- all but room is right
 
-module _ (c : Counts) (table text : List ℕ) (present amount : Bool) (f : Draft → Built) (nodes : c .nodes ≤ length table / 4) (bytes : c .bytes ≤ length text) (p : present ≡ true) (a : amount ≡ true) (quiet : f (counted c table text) .draft .counts .bytes ≡ c .bytes) where
+module _ (c : Counts) (table text : List ℕ) (present amount : Bool) (f : Draft → Built) (nodes : c .nodes ≤ length table / 4) (bytes : c .bytes ≤ length text)
+    (p : present ≡ true) (a : amount ≡ true) (quiet : f (counted c table text) .draft .counts .bytes ≡ c .bytes) where
   abbrev b : Built
   b = f (counted c table text)
 
   -- by whether the nodes fit
-  asked-room : (q : Bool) → fits (c .nodes) (b .draft .counts .nodes) 1024 (length table / 4) ≡ q → asked c (length table) (length text) present amount true (b .draft .counts .nodes) (b .draft .counts .bytes) ≡ pick q Granted (Denied Nodes)
+  asked-room : (q : Bool) → fits (c .nodes) (b .draft .counts .nodes) 1024 (length table / 4) ≡ q
+      → asked c (length table) (length text) present amount true (b .draft .counts .nodes) (b .draft .counts .bytes) ≡ pick q Granted (Denied Nodes)
   unfolding asked
   asked-room q e =
-      rw (le-ltb (length table / 4) (c .nodes) nodes, le-ltb (length text) (c .bytes) bytes, p, a, eq-eqb (c .bytes) (b .draft .counts .bytes) (sym quiet)) (rw e (last q))
+      rw (le-ltb (length table / 4) (c .nodes) nodes, le-ltb (length text) (c .bytes) bytes, p, a, eq-eqb (c .bytes) (b .draft .counts .bytes) (sym quiet))
+      (rw e (last q))
     where
       last : (r : Bool) → pick (not r) (Denied Nodes) Granted ≡ pick r Granted (Denied Nodes)
       last true = refl
@@ -98,5 +101,6 @@ module _ (c : Counts) (table text : List ℕ) (present amount : Bool) (f : Draft
   pub made-whole : fits (c .nodes) (b .draft .counts .nodes) 1024 (length table / 4) ≡ true → made c table text present amount true f ≡ added b table text
   made-whole e = made-granted c table text present amount true f b refl (asked-room true e)
 
-  pub made-short : fits (c .nodes) (b .draft .counts .nodes) 1024 (length table / 4) ≡ false → outcome (Refused Nodes) table text ≡ made c table text present amount true f
+  pub made-short : fits (c .nodes) (b .draft .counts .nodes) 1024 (length table / 4) ≡ false
+      → outcome (Refused Nodes) table text ≡ made c table text present amount true f
   made-short e = made-denied c table text present amount true f _ _ Nodes refl refl (asked-room false e)

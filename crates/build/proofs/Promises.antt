@@ -22,12 +22,13 @@ use Rattle.build.specs.declared.Asked.{Asked}
 use Rattle.build.specs.declared.Asked.the-variants.{Granted, Denied}
 use Rattle.build.specs.Draft.{Draft, Built, counted}
 use Rattle.build.specs.Outcome.{asked, settled, made}
-use Rattle.build.specs.Constructors.{has, hasAll, nestRight, nilMade, appendMade, groupMade, flatAltMade, nestMade, hardlineMade, textMade, annotateMade, unionMade, alignMade, failMade, spaceMade, lineMade, line₀Made, softlineMade, softline₀Made, hangMade, indentMade, encloseMade, concatMade, intersperseMade}
+use Rattle.build.specs.Constructors.{has, hasAll, nestRight, nilMade, appendMade, groupMade, flatAltMade, nestMade, hardlineMade, textMade, annotateMade, unionMade}
+use Rattle.build.specs.Constructors.{alignMade, failMade, spaceMade, lineMade, line₀Made, softlineMade, softline₀Made, hangMade, indentMade, encloseMade, concatMade, intersperseMade}
 use Rattle.build.specs.Documents.{appendDoc, groupDoc, nestDoc, textDoc, spaceDoc, lineDoc, line₀Doc, softlineDoc, softline₀Doc, hangDoc, indentDoc, encloseDoc, concatDoc, intersperseDoc}
 use Rattle.build.specs.Promise.{docAt, Promise}
 use Rattle.build.proofs.Grow.{more-nodes, more-bytes}
 use Rattle.build.proofs.Room.{passed, room-of}
-use Rattle.build.proofs.Stand.{stands-counted, start, taken, part}
+use Rattle.build.proofs.Stand.{stands-counted, start, taken, made-told, part}
 use Rattle.build.proofs.Clean.{Clean, docOf, clean-none}
 use Rattle.build.proofs.Joins.{below-of}
 use Rattle.build.proofs.Means.{Makes, still, nil-makes, hardline-makes, fail-makes, flatAlt-makes, union-makes, align-makes, annotate-makes, group-makes, nest-makes, append-makes}
@@ -42,16 +43,21 @@ module _ (c : Counts) (table text : List ℕ) where
   abbrev s₀ : Draft
   s₀ = counted c table text
 
-  pub promise : (present amount right : Bool) (f : Draft → Built) (d : Doc) → (Clean s₀ → present ≡ true → amount ≡ true → right ≡ true → Makes s₀ (f s₀) d) → Promise c table text (made c table text present amount right f) d
+  pub promise : (present amount right : Bool) (f : Draft → Built) (d : Doc) → (Clean s₀ → present ≡ true → amount ≡ true → right ≡ true → Makes s₀ (f s₀) d)
+      → Promise c table text (made c table text present amount right f) d
   unfolding counted made
   promise present amount right f d makes c′ n e v =
       let b = f s₀ in
-      let p = passed c (length table) (length text) present amount right (b .draft .counts .nodes) (b .draft .counts .bytes) (was-granted (asked c (length table) (length text) present amount right (b .draft .counts .nodes) (b .draft .counts .bytes)) b table text c′ n e) in
+      let p =
+      passed c (length table) (length text) present amount right (b .draft .counts .nodes) (b .draft .counts .bytes)
+      (was-granted (asked c (length table) (length text) present amount right (b .draft .counts .nodes) (b .draft .counts .bytes)) b table text c′ n e) in
       let first = start c table text (p .counted-nodes) (p .counted-bytes) in
       let clean : Clean s₀ = record { whole = first .whole; faults = clean-of (s₀ .table) (s₀ .text) (c .nodes) (ap (λ (x : Fault). x .answer) v) } in
       let m = makes clean (p .operands) (p .amounts) (p .texts) in
       let o = made c table text present amount right f in
-      let went = part first f (m .grown) (room-of (b .draft .counts) (more-nodes (m .grown)) (more-bytes (m .grown)) p) present amount right (p .operands) (p .amounts) (p .texts) {m = o .made} {table′ = o .table} {text′ = o .text} refl in
+      let went =
+      part first f (m .grown) (room-of (b .draft .counts) (more-nodes (m .grown)) (more-bytes (m .grown)) p) present amount right (p .operands) (p .amounts) (p .texts)
+      {m = o .made} {table′ = o .table} {text′ = o .text} (made-told c table text present amount right f) in
       let t = taken went e in
       let is : counted c′ (o .table) (o .text) ≡ b .draft = stands-counted (t .0) in
       record {
@@ -113,20 +119,26 @@ module _ (c : Counts) (table text : List ℕ) where
 
       pub nest-promise : Promise c table text (nestMade c table text n amount way) (nestDoc (docAt c table text n) amount way)
       unfolding counted
-      nest-promise = promise (has c n) (nestRight amount way) true _ (nestDoc (docAt c table text n) amount way) (λ k p a r. nest-makes k n (there p) amount way (in-range a .0) (in-range a .1))
+      nest-promise =
+          promise (has c n) (nestRight amount way) true _ (nestDoc (docAt c table text n) amount way)
+          (λ k p a r. nest-makes k n (there p) amount way (in-range a .0) (in-range a .1))
 
       pub hang-promise : Promise c table text (hangMade c table text n amount way) (hangDoc (docAt c table text n) amount way)
       unfolding counted
-      hang-promise = promise (has c n) (nestRight amount way) true _ (hangDoc (docAt c table text n) amount way) (λ k p a r. hang-makes k n amount way (there p) (in-range a .0) (in-range a .1))
+      hang-promise =
+          promise (has c n) (nestRight amount way) true _ (hangDoc (docAt c table text n) amount way)
+          (λ k p a r. hang-makes k n amount way (there p) (in-range a .0) (in-range a .1))
 
     pub indent-promise : (by : ℕ) → Promise c table text (indentMade c table text n by) (indentDoc (docAt c table text n) by)
     unfolding counted
     indent-promise by = promise (has c n) (leb by 1000) true _ (indentDoc (docAt c table text n) by) (λ k p a r. indent-makes k n by (there p) (leb-true by 1000 a))
 
-    pub enclose-promise : (before behind : ℕ) → Promise c table text (encloseMade c table text n before behind) (encloseDoc (docAt c table text n) (docAt c table text before) (docAt c table text behind))
+    pub enclose-promise : (before behind : ℕ)
+        → Promise c table text (encloseMade c table text n before behind) (encloseDoc (docAt c table text n) (docAt c table text before) (docAt c table text behind))
     unfolding counted
     enclose-promise before behind =
-        promise (hasAll c (before ∷ n ∷ behind ∷ [])) true true _ (encloseDoc (docAt c table text n) (docAt c table text before) (docAt c table text behind)) (λ k p a r. enclose-makes k n before behind (below-of c (before ∷ n ∷ behind ∷ []) p))
+        promise (hasAll c (before ∷ n ∷ behind ∷ [])) true true _ (encloseDoc (docAt c table text n) (docAt c table text before) (docAt c table text behind))
+        (λ k p a r. enclose-makes k n before behind (below-of c (before ∷ n ∷ behind ∷ []) p))
 
   module _ (a b : ℕ) where
     two : has c a && has c b ≡ true → (a < c .nodes) × (b < c .nodes)
@@ -134,11 +146,13 @@ module _ (c : Counts) (table text : List ℕ) where
 
     pub append-promise : Promise c table text (appendMade c table text a b) (appendDoc (docAt c table text a) (docAt c table text b))
     unfolding counted
-    append-promise = promise (has c a && has c b) true true _ (appendDoc (docAt c table text a) (docAt c table text b)) (λ k p q r. append-makes k a b (two p .0) (two p .1))
+    append-promise =
+        promise (has c a && has c b) true true _ (appendDoc (docAt c table text a) (docAt c table text b)) (λ k p q r. append-makes k a b (two p .0) (two p .1))
 
     pub flatAlt-promise : Promise c table text (flatAltMade c table text a b) (flatAlt (docAt c table text a) (docAt c table text b))
     unfolding counted
-    flatAlt-promise = promise (has c a && has c b) true true _ (flatAlt (docAt c table text a) (docAt c table text b)) (λ k p q r. flatAlt-makes k a b (two p .0) (two p .1))
+    flatAlt-promise =
+        promise (has c a && has c b) true true _ (flatAlt (docAt c table text a) (docAt c table text b)) (λ k p q r. flatAlt-makes k a b (two p .0) (two p .1))
 
     pub union-promise : Promise c table text (unionMade c table text a b) (union (docAt c table text a) (docAt c table text b))
     unfolding counted

@@ -86,7 +86,8 @@ pub record Passed (c : Counts) (words bytes : ℕ) (present amount text : Bool) 
   pub bytes-fit : fits (c .bytes) used 65536 bytes ≡ true
   pub nodes-fit : fits (c .nodes) nodes 1024 (words / 4) ≡ true
 
-pub passed : (c : Counts) (words bytes : ℕ) (present amount text : Bool) (nodes used : ℕ) → asked c words bytes present amount text nodes used ≡ Granted → Passed c words bytes present amount text nodes used
+pub passed : (c : Counts) (words bytes : ℕ) (present amount text : Bool) (nodes used : ℕ) → asked c words bytes present amount text nodes used ≡ Granted
+    → Passed c words bytes present amount text nodes used
 unfolding asked
 passed c words bytes present amount text nodes used e =
     let a = goes-on _ _ _ e in
@@ -106,15 +107,18 @@ passed c words bytes present amount text nodes used e =
       nodes-fit = not-false _ (s .0);
     }
 
-pub room-of : {c : Counts} {words bytes : ℕ} {present amount text : Bool} (d : Counts) → c .nodes ≤ d .nodes → c .bytes ≤ d .bytes → Passed c words bytes present amount text (d .nodes) (d .bytes) → Room words bytes c d
+pub room-of : {c : Counts} {words bytes : ℕ} {present amount text : Bool} (d : Counts) → c .nodes ≤ d .nodes → c .bytes ≤ d .bytes
+    → Passed c words bytes present amount text (d .nodes) (d .bytes) → Room words bytes c d
 room-of d gn gb p = record { nodes = fits-of _ _ _ _ gn (p .nodes-fit); used = fits-of _ _ _ _ gb (p .bytes-fit) }
 
-pub allowed : (c d : Counts) (words bytes : ℕ) (present amount text : Bool) → c .nodes ≤ d .nodes → c .bytes ≤ d .bytes → asked c words bytes present amount text (d .nodes) (d .bytes) ≡ Granted → Allowed c d words bytes present amount text
+pub allowed : (c d : Counts) (words bytes : ℕ) (present amount text : Bool) → c .nodes ≤ d .nodes → c .bytes ≤ d .bytes
+    → asked c words bytes present amount text (d .nodes) (d .bytes) ≡ Granted → Allowed c d words bytes present amount text
 allowed c d words bytes present amount text gn gb e =
     let p = passed c words bytes present amount text (d .nodes) (d .bytes) e in
     record { counted-nodes = p .counted-nodes; counted-bytes = p .counted-bytes; operands = p .operands; amounts = p .amounts; texts = p .texts; room = room-of d gn gb p }
 
-pub granted : {c d : Counts} {words bytes : ℕ} {present amount text : Bool} → Allowed c d words bytes present amount text → asked c words bytes present amount text (d .nodes) (d .bytes) ≡ Granted
+pub granted : {c d : Counts} {words bytes : ℕ} {present amount text : Bool} → Allowed c d words bytes present amount text
+    → asked c words bytes present amount text (d .nodes) (d .bytes) ≡ Granted
 unfolding asked
 granted {c} {d} {words} {bytes} {present} {amount} {text} h =
     rw (le-ltb (words / 4) (c .nodes) (h .counted-nodes), le-ltb bytes (c .bytes) (h .counted-bytes), h .operands, h .amounts, h .texts)

@@ -48,7 +48,8 @@ pub word-past : (table : List ℕ) (m at : ℕ) → length table ≤ at → 0 �
 word-past table m at h = sym (List·getD-eq-default (take m table) 0 (simp length-take (omega arith)))
 
 -- four stores from the end of the counted words on
-pub words-put : (table : List ℕ) (at k a b c : ℕ) → at + 3 < length table → set (set (set (set table at k) (at + 1) a) (at + 2) b) (at + 3) c ≡ over (take at table ++ (k ∷ a ∷ b ∷ c ∷ [])) table
+pub words-put : (table : List ℕ) (at k a b c : ℕ) → at + 3 < length table
+    → set (set (set (set table at k) (at + 1) a) (at + 2) b) (at + 3) c ≡ over (take at table ++ (k ∷ a ∷ b ∷ c ∷ [])) table
 words-put table at k a b c h =
     let four : List ℕ = k ∷ a ∷ b ∷ c ∷ [] in
     let e : length (take at table ++ four) ≡ at + 4 = simp (length-append, length-take) (omega arith) in

@@ -39,7 +39,8 @@ Says bytes (align a) p q = (p ≡ false) × (q ≡ false)
 Says bytes fail p q = (p ≡ false) × (q ≡ false)
 
 -- by the words
-words-say : (bytes : List ℕ) (k a b c : ℕ) → k < 11 → Says bytes (nodeOf k a b c) (eqb k 0) (eqb k 0 || eqb k 2 || (eqb k 6 && leb (a + b) (length bytes) && ascii (take b (drop a bytes))))
+words-say : (bytes : List ℕ) (k a b c : ℕ) → k < 11
+    → Says bytes (nodeOf k a b c) (eqb k 0) (eqb k 0 || eqb k 2 || (eqb k 6 && leb (a + b) (length bytes) && ascii (take b (drop a bytes))))
 words-say bytes zero a b c h = (refl, refl)
 words-say bytes (suc zero) a b c h = (refl, refl)
 words-say bytes (suc (suc zero)) a b c h = (refl, refl)
@@ -54,7 +55,8 @@ words-say bytes (suc (suc (suc (suc (suc (suc (suc (suc (suc (suc zero))))))))))
 words-say bytes (suc (suc (suc (suc (suc (suc (suc (suc (suc (suc (suc k))))))))))) a b c h = absurd (omega arith)
 
 -- by the document
-doc-says : (bytes : List ℕ) (at : ℕ → Tree) (n : ℕ) (x : Node) (p q : Bool) → Sound (length bytes) n x → Says bytes x p q → (isNilDoc (doc (treeOf bytes at n x)) ≡ p) × (staysDoc (doc (treeOf bytes at n x)) ≡ q)
+doc-says : (bytes : List ℕ) (at : ℕ → Tree) (n : ℕ) (x : Node) (p q : Bool) → Sound (length bytes) n x → Says bytes x p q
+    → (isNilDoc (doc (treeOf bytes at n x)) ≡ p) × (staysDoc (doc (treeOf bytes at n x)) ≡ q)
 unfolding doc
 doc-says bytes at n nil p q h s = (sym (s .0), sym (s .1))
 doc-says bytes at n (append a b) p q h s = (sym (s .0), sym (s .1))

@@ -100,26 +100,34 @@ module _ (n : ℕ) (ns : List ℕ) (some : 0 < length ns) where
         let b : Below (c .nodes) (getD ns 0 0 ∷ drop 1 ns) = rw (head-is ns some) at (below-of c ns (p .1)) in
         (b .0, below-separated n (drop 1 ns) (ltb-true n (c .nodes) (p .0)) (b .1))
 
-    pub intersperse-made : {m : Made} → m ≡ answered (intersperse-asked (solid (take (c .nodes * 4) table) ns + (length ns - 1) * solid (take (c .nodes * 4) table) (n ∷ []))) (Node c (record { 0 = getD ns 0 0 })) → joinAll m table text (separated n (drop 1 ns)) ≡ intersperseMade c table text ns n
+    pub intersperse-made : {m : Made}
+        → m ≡ answered (intersperse-asked (solid (take (c .nodes * 4) table) ns + (length ns - 1) * solid (take (c .nodes * 4) table) (n ∷ []))) (Node c (record { 0 = getD ns 0 0 }))
+        → joinAll m table text (separated n (drop 1 ns)) ≡ intersperseMade c table text ns n
     unfolding counted
     intersperse-made e =
         let all = ap (λ (k : ℕ). answered (intersperse-asked k) (Node c (record { 0 = getD ns 0 0 }))) (sym (solid-all (take (c .nodes * 4) table))) in
-        join-made c table text (has c n && hasAll c ns) (λ s. intersperse s ns n) (getD ns 0 0) (separated n (drop 1 ns)) (intersperse-is (counted c table text)) operands (e ∙ all)
+        join-made c table text (has c n && hasAll c ns) (λ s. intersperse s ns n) (getD ns 0 0) (separated n (drop 1 ns)) (intersperse-is (counted c table text)) operands
+        (e ∙ all)
 
 -- one turn of the loop: the separator, then the next node
-pub intersperse-turn : (m₁ m₂ : Made) (table₁ table₂ text : List ℕ) {m₃ : Made} {table₃ : List ℕ} (n : ℕ) (ns : List ℕ) (i : ℕ) → i < length ns → outcome m₂ table₂ text ≡ onward m₁ table₁ text (λ c b. appendMade c table₁ text b n)
-    → outcome m₃ table₃ text ≡ onward m₂ table₂ text (λ c b. appendMade c table₂ text b (getD ns i 0)) → joinAll m₃ table₃ text (separated n (drop (i + 1) ns)) ≡ joinAll m₁ table₁ text (separated n (drop i ns))
+pub intersperse-turn : (m₁ m₂ : Made) (table₁ table₂ text : List ℕ) {m₃ : Made} {table₃ : List ℕ} (n : ℕ) (ns : List ℕ) (i : ℕ) → i < length ns
+    → outcome m₂ table₂ text ≡ onward m₁ table₁ text (λ c b. appendMade c table₁ text b n)
+    → outcome m₃ table₃ text ≡ onward m₂ table₂ text (λ c b. appendMade c table₂ text b (getD ns i 0))
+    → joinAll m₃ table₃ text (separated n (drop (i + 1) ns)) ≡ joinAll m₁ table₁ text (separated n (drop i ns))
 unfolding separated
 intersperse-turn m₁ m₂ table₁ table₂ text n ns i h o₁ o₂ =
-    rw (drop-cons ns i 0 h) (rw add-one (join-on m₂ table₂ text (getD ns i 0) (separated n (drop (suc i) ns)) o₂ ∙ join-on m₁ table₁ text n (getD ns i 0 ∷ separated n (drop (suc i) ns)) o₁))
+    rw (drop-cons ns i 0 h)
+    (rw add-one (join-on m₂ table₂ text (getD ns i 0) (separated n (drop (suc i) ns)) o₂ ∙ join-on m₁ table₁ text n (getD ns i 0 ∷ separated n (drop (suc i) ns)) o₁))
 
 -- of none one Nil, the separator an operand all the same
-pub intersperse-none : (c : Counts) (table text : List ℕ) (n : ℕ) (ns : List ℕ) → length ns ≡ 0 → made c table text (has c n && hasAll c ns) true true nil ≡ intersperseMade c table text ns n
+pub intersperse-none : (c : Counts) (table text : List ℕ) (n : ℕ) (ns : List ℕ) → length ns ≡ 0
+    → made c table text (has c n && hasAll c ns) true true nil ≡ intersperseMade c table text ns n
 unfolding intersperse
 intersperse-none c table text n [] e = refl
 intersperse-none c table text n (m ∷ ns) e = absurd (omega arith)
 
 -- nothing is left
-pub intersperse-end : {m : Made} {table text : List ℕ} (n : ℕ) (ns : List ℕ) (i : ℕ) → length ns ≤ i → outcome m table text ≡ joinAll m table text (separated n (drop i ns))
+pub intersperse-end : {m : Made} {table text : List ℕ} (n : ℕ) (ns : List ℕ) (i : ℕ) → length ns ≤ i
+    → outcome m table text ≡ joinAll m table text (separated n (drop i ns))
 unfolding joinAll separated
 intersperse-end n ns i h = rw (drop-of-length-le ns h) refl

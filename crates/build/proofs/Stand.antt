@@ -1,5 +1,6 @@
 -- How a constructor that is put together of others goes on from part to part.
---     Stands     counts, table and text, where a sheet was built over a first table and text
+--     Stands     counts, table and text, where a draft was built over a first table and text
+--     ComesTo    the counts that parts come to
 --     start, part, gone, taken, never, done   before the first part, over one, its answer taken apart, after the last
 --     refuse, settle, begin, step, finish   the whole: refused, or granted with all of its room, and its parts one by one
 --     first-denied, first-granted, first    a first part that asks for the whole
@@ -24,7 +25,7 @@ use Rattle.build.specs.Outcome.{past, asked, Outcome, outcome, onward, a
 use Rattle.build.proofs.Grow.{Whole, Grown, same, whole-grown, more-nodes, more-bytes}
 use Rattle.build.proofs.Room.{neither, stretch, fits-inside, Room, Allowed, allowed, granted}
 
--- counts c over table and text, where sheet s was built over a first table and a first text
+-- counts c over table and text, where draft s was built over a first table and a first text
 pub record Stands (table₀ text₀ : List ℕ) (s : Draft) (c : Counts) (table text : List ℕ) : Type 0 where
   pub counts : c ≡ s .counts
   pub words : table ≡ over (s .table) table₀
@@ -53,11 +54,12 @@ module _ {table₀ text₀ : List ℕ} {s : Draft} {c : Counts} {table text : Li
   pub same-bytes : length text ≡ length text₀
   same-bytes = let l = h .whole .bytes in let i = h .bytes-inside in ap length (h .bytes) ∙ length-over (s .text) text₀ (omega arith)
 
-  -- what is counted is the sheet
+  -- what is counted is the draft
   pub stands-counted : counted c table text ≡ s
   unfolding counted
   stands-counted =
-      let p : take (c .nodes * 4) table ≡ s .table = rw (h .counts, h .words) (take-at (s .table) (drop (length (s .table)) table₀) (s .counts .nodes * 4) (h .whole .words)) in
+      let p : take (c .nodes * 4) table ≡ s .table =
+      rw (h .counts, h .words) (take-at (s .table) (drop (length (s .table)) table₀) (s .counts .nodes * 4) (h .whole .words)) in
       let q : take (c .bytes) text ≡ s .text = rw (h .counts, h .bytes) (take-at (s .text) (drop (length (s .text)) text₀) (s .counts .bytes) (h .whole .bytes)) in
       λ i. record { counts = h .counts i; table = p i; text = q i }
 
@@ -75,47 +77,68 @@ start c table text n b =
       bytes-inside = b;
     }
 
+-- an outcome's number is its answer's
+settled-told : (a : Asked) (b : Built) (table text : List ℕ) → let o = settled a b table text in outcome (o .made) (o .table) (o .text) ≡ o
+unfolding added
+settled-told Granted b table text = refl
+settled-told (Denied why) b table text = refl
+
 -- a part gave what it was asked for
 pub record Went (table₀ text₀ : List ℕ) (b : Built) (m : Made) (table text : List ℕ) : Type 0 where
   pub answer : m ≡ Node (b .draft .counts) (record { 0 = b .node })
   pub stands : Stands table₀ text₀ (b .draft) (b .draft .counts) table text
 
+-- the counts that parts come to, where nothing before them in the order of refusals is wrong
+abbrev pub ComesTo : Counts → List ℕ → List ℕ → Bool → (Draft → Built) → ℕ → ℕ → Type 0
+ComesTo c table text present f nodes used =
+    c .nodes ≤ length table / 4 → c .bytes ≤ length text → present ≡ true
+    → (f (counted c table text) .draft .counts .nodes ≡ nodes) × (f (counted c table text) .draft .counts .bytes ≡ used)
+
 module _ (c : Counts) (table text : List ℕ) (present amount right : Bool) (f : Draft → Built) where
   abbrev asked-of : ℕ → ℕ → Asked
   asked-of nodes used = asked c (length table) (length text) present amount right nodes used
 
-  pub made-granted : (b : Built) → f (counted c table text) ≡ b → asked-of (b .draft .counts .nodes) (b .draft .counts .bytes) ≡ Granted → made c table text present amount right f ≡ added b table text
+  pub made-granted : (b : Built) → f (counted c table text) ≡ b → asked-of (b .draft .counts .nodes) (b .draft .counts .bytes) ≡ Granted
+      → made c table text present amount right f ≡ added b table text
   unfolding made
   made-granted b e g = rw (e, g) refl
 
-  pub made-denied : (nodes used : ℕ) (why : Why) → f (counted c table text) .draft .counts .nodes ≡ nodes → f (counted c table text) .draft .counts .bytes ≡ used → asked-of nodes used ≡ Denied why → outcome (Refused why) table text ≡ made c table text present amount right f
+  pub made-denied : (nodes used : ℕ) (why : Why) → f (counted c table text) .draft .counts .nodes ≡ nodes → f (counted c table text) .draft .counts .bytes ≡ used
+      → asked-of nodes used ≡ Denied why → outcome (Refused why) table text ≡ made c table text present amount right f
   unfolding made
   made-denied nodes used why n u d = rw (n, u, d) refl
 
+  pub made-told : let o = made c table text present amount right f in outcome (o .made) (o .table) (o .text) ≡ o
+  unfolding made
+  made-told = let b = f (counted c table text) in settled-told (asked-of (b .draft .counts .nodes) (b .draft .counts .bytes)) b table text
+
   -- parts that come to the same
-  pub made-same : (g : Draft → Built) → f (counted c table text) ≡ g (counted c table text) → made c table text present amount right f ≡ made c table text present amount right g
+  pub made-same : (g : Draft → Built) → f (counted c table text) ≡ g (counted c table text)
+      → made c table text present amount right f ≡ made c table text present amount right g
   unfolding made
   made-same g e = rw e refl
 
-  -- counts that are right where nothing comes before them
-  module _ (nodes used : ℕ) (right-counts : c .nodes ≤ length table / 4 → c .bytes ≤ length text → present ≡ true → (f (counted c table text) .draft .counts .nodes ≡ nodes) × (f (counted c table text) .draft .counts .bytes ≡ used)) where
+  module _ (nodes used : ℕ) (right-counts : ComesTo c table text present f nodes used) where
     pub asked-same : asked-of (f (counted c table text) .draft .counts .nodes) (f (counted c table text) .draft .counts .bytes) ≡ asked-of nodes used
     unfolding asked
     asked-same = over-past (past c (length table) (length text)) refl
       where
-        over-operand : (q : Bool) → present ≡ q → past c (length table) (length text) ≡ false → asked-of (f (counted c table text) .draft .counts .nodes) (f (counted c table text) .draft .counts .bytes) ≡ asked-of nodes used
+        over-operand : (q : Bool) → present ≡ q → past c (length table) (length text) ≡ false
+            → asked-of (f (counted c table text) .draft .counts .nodes) (f (counted c table text) .draft .counts .bytes) ≡ asked-of nodes used
         over-operand true q e =
             let i = neither _ _ e in
             let r = right-counts (ltb-false (length table / 4) (c .nodes) (i .0)) (ltb-false (length text) (c .bytes) (i .1)) q in
             rw (r .0, r .1) refl
         over-operand false q e = rw (e, q) refl
 
-        over-past : (q : Bool) → past c (length table) (length text) ≡ q → asked-of (f (counted c table text) .draft .counts .nodes) (f (counted c table text) .draft .counts .bytes) ≡ asked-of nodes used
+        over-past : (q : Bool) → past c (length table) (length text) ≡ q
+            → asked-of (f (counted c table text) .draft .counts .nodes) (f (counted c table text) .draft .counts .bytes) ≡ asked-of nodes used
         over-past true e = rw e refl
         over-past false e = over-operand present refl e
 
--- what was built over a sheet that stands, stands
-pub went-added : {table₀ text₀ : List ℕ} {s : Draft} {c : Counts} {table text : List ℕ} → Stands table₀ text₀ s c table text → (b : Built) → Grown s (b .draft) → Room (length table₀) (length text₀) (s .counts) (b .draft .counts)
+-- what was built over a draft that stands, stands
+pub went-added : {table₀ text₀ : List ℕ} {s : Draft} {c : Counts} {table text : List ℕ} → Stands table₀ text₀ s c table text → (b : Built) → Grown s (b .draft)
+    → Room (length table₀) (length text₀) (s .counts) (b .draft .counts)
     → {m : Made} {table′ text′ : List ℕ} → outcome m table′ text′ ≡ added b table text → Went table₀ text₀ b m table′ text′
 unfolding added
 went-added {table₀} {text₀} {s} h b g r d =
@@ -126,8 +149,14 @@ went-added {table₀} {text₀} {s} h b g r d =
       stands =
           record {
             counts = refl;
-            words = ap (λ (o : Outcome). o .table) d ∙ ap (over (b .draft .table)) (h .words) ∙ over-over (s .table) (b .draft .table) table₀ (omega (arith, w .words, h .whole .words, more-nodes g));
-            bytes = ap (λ (o : Outcome). o .text) d ∙ ap (over (b .draft .text)) (h .bytes) ∙ over-over (s .text) (b .draft .text) text₀ (omega (arith, w .bytes, h .whole .bytes, more-bytes g));
+            words =
+                ap (λ (o : Outcome). o .table) d
+                ∙ ap (over (b .draft .table)) (h .words)
+                ∙ over-over (s .table) (b .draft .table) table₀ (omega (arith, w .words, h .whole .words, more-nodes g));
+            bytes =
+                ap (λ (o : Outcome). o .text) d
+                ∙ ap (over (b .draft .text)) (h .bytes)
+                ∙ over-over (s .text) (b .draft .text) text₀ (omega (arith, w .bytes, h .whole .bytes, more-bytes g));
             whole = w;
             nodes-inside = let i = fits-inside (r .nodes) n in omega arith;
             bytes-inside = fits-inside (r .used) (h .bytes-inside);
@@ -135,8 +164,10 @@ went-added {table₀} {text₀} {s} h b g r d =
     }
 
 -- one part more
-pub part : {table₀ text₀ : List ℕ} {s : Draft} {c : Counts} {table text : List ℕ} → Stands table₀ text₀ s c table text → (f : Draft → Built) → Grown s (f s .draft) → Room (length table₀) (length text₀) (s .counts) (f s .draft .counts)
-    → (present amount right : Bool) → present ≡ true → amount ≡ true → right ≡ true → {m : Made} {table′ text′ : List ℕ} → outcome m table′ text′ ≡ made c table text present amount right f → Went table₀ text₀ (f s) m table′ text′
+pub part : {table₀ text₀ : List ℕ} {s : Draft} {c : Counts} {table text : List ℕ} → Stands table₀ text₀ s c table text → (f : Draft → Built) → Grown s (f s .draft)
+    → Room (length table₀) (length text₀) (s .counts) (f s .draft .counts)
+    → (present amount right : Bool) → present ≡ true → amount ≡ true → right ≡ true → {m : Made} {table′ text′ : List ℕ}
+    → outcome m table′ text′ ≡ made c table text present amount right f → Went table₀ text₀ (f s) m table′ text′
 part {table₀} {text₀} {s} {c} {table} {text} h f g r present amount right p a t e =
     let b = f s in
     let n : s .counts .nodes ≤ length table₀ / 4 = let i = h .nodes-inside in omega arith in
@@ -145,17 +176,21 @@ part {table₀} {text₀} {s} {c} {table} {text} h f g r present amount right p 
     went-added h b g r (e ∙ made-granted c table text present amount right f b (ap f (stands-counted h)) (granted ok))
 
 -- what goes on from it
-pub gone : {table₀ text₀ : List ℕ} {b : Built} {m : Made} {table text : List ℕ} → Went table₀ text₀ b m table text → (next : Counts → ℕ → Outcome) → onward m table text next ≡ next (b .draft .counts) (b .node)
+pub gone : {table₀ text₀ : List ℕ} {b : Built} {m : Made} {table text : List ℕ} → Went table₀ text₀ b m table text → (next : Counts → ℕ → Outcome)
+    → onward m table text next ≡ next (b .draft .counts) (b .node)
 gone {table = table} {text = text} w next = ap (λ (k : Made). onward k table text next) (w .answer)
 
 -- its answer taken apart
-pub taken : {table₀ text₀ : List ℕ} {b : Built} {m : Made} {table text : List ℕ} → Went table₀ text₀ b m table text → {c : Counts} {n : NodeNo} → m ≡ Node c n → Stands table₀ text₀ (b .draft) c table text × (n .0 ≡ b .node)
+pub taken : {table₀ text₀ : List ℕ} {b : Built} {m : Made} {table text : List ℕ} → Went table₀ text₀ b m table text → {c : Counts} {n : NodeNo} → m ≡ Node c n
+    → Stands table₀ text₀ (b .draft) c table text × (n .0 ≡ b .node)
 taken {b = b} w {c} {n} e =
     let q : Node c n ≡ Node (b .draft .counts) (record { 0 = b .node }) = sym e ∙ w .answer in
     let p : c ≡ b .draft .counts = cc in
     let r : n ≡ record { 0 = b .node } = cc in
-    let s = w .stands in
-    (record { counts = p; words = s .words; bytes = s .bytes; whole = s .whole; nodes-inside = s .nodes-inside; bytes-inside = s .bytes-inside }, ap (λ (x : NodeNo). x .0) r)
+    let s = w .stands in (
+      record { counts = p; words = s .words; bytes = s .bytes; whole = s .whole; nodes-inside = s .nodes-inside; bytes-inside = s .bytes-inside },
+      ap (λ (x : NodeNo). x .0) r,
+    )
 
 -- an answer is no refusal
 pub apart : {c : Counts} {n : NodeNo} {why : Why} → Node c n ≡ Refused why → ⊥
@@ -177,18 +212,21 @@ pub record Begun (c : Counts) (table text : List ℕ) (present amount right : Bo
   pub stands : Stands table text (counted c table text) c table text
   pub whole : made c table text present amount right f ≡ added (f (counted c table text)) table text
 
-module _ (c : Counts) (table text : List ℕ) (present amount right : Bool) (f : Draft → Built) (nodes used : ℕ) (right-counts : c .nodes ≤ length table / 4 → c .bytes ≤ length text → present ≡ true → (f (counted c table text) .draft .counts .nodes ≡ nodes) × (f (counted c table text) .draft .counts .bytes ≡ used)) where
+module _ (c : Counts) (table text : List ℕ) (present amount right : Bool) (f : Draft → Built) (nodes used : ℕ)
+    (right-counts : ComesTo c table text present f nodes used) where
   asked-is : asked c (length table) (length text) present amount right (f (counted c table text) .draft .counts .nodes) (f (counted c table text) .draft .counts .bytes) ≡ asked c (length table) (length text) present amount right nodes used
   asked-is = asked-same c table text present amount right f nodes used right-counts
 
-  pub refuse : (why : Why) → asked c (length table) (length text) present amount right nodes used ≡ Denied why → outcome (Refused why) table text ≡ made c table text present amount right f
+  pub refuse : (why : Why) → asked c (length table) (length text) present amount right nodes used ≡ Denied why
+      → outcome (Refused why) table text ≡ made c table text present amount right f
   refuse why d = made-denied c table text present amount right f _ _ why refl refl (asked-is ∙ d)
 
   pub settle : settled (asked c (length table) (length text) present amount right nodes used) (f (counted c table text)) table text ≡ made c table text present amount right f
   unfolding made
   settle = ap (λ (a : Asked). settled a (f (counted c table text)) table text) (sym asked-is)
 
-  pub begin : Grown (counted c table text) (f (counted c table text) .draft) → asked c (length table) (length text) present amount right nodes used ≡ Granted → Begun c table text present amount right f
+  pub begin : Grown (counted c table text) (f (counted c table text) .draft) → asked c (length table) (length text) present amount right nodes used ≡ Granted
+      → Begun c table text present amount right f
   begin g e =
       let b = f (counted c table text) in
       let n : c .nodes ≤ b .draft .counts .nodes = unfold counted in more-nodes g in
@@ -200,29 +238,35 @@ module _ (c : Counts) (table text : List ℕ) (present amount right : Bool) (f :
         whole = made-granted c table text present amount right f b refl (asked-is ∙ e);
       }
 
-module _ {c₀ : Counts} {table₀ text₀ : List ℕ} {present₀ amount₀ right₀ : Bool} {whole : Draft → Built} (begun : Begun c₀ table₀ text₀ present₀ amount₀ right₀ whole) where
-  -- room for what grew from the first sheet, where the whole grows from it
-  room-for : {s t : Draft} → Grown (counted c₀ table₀ text₀) s → Grown s t → Grown t (whole (counted c₀ table₀ text₀) .draft) → Room (length table₀) (length text₀) (s .counts) (t .counts)
-  unfolding counted
-  room-for {s} {t} before here after =
-      let r = begun .facts .room in
-      record {
-        nodes = stretch (s .counts .nodes) (t .counts .nodes) (r .nodes) (more-nodes before) (more-nodes here) (more-nodes after);
-        used = stretch (s .counts .bytes) (t .counts .bytes) (r .used) (more-bytes before) (more-bytes here) (more-bytes after);
-      }
+module _ {c₀ : Counts} {table₀ text₀ : List ℕ} {present₀ amount₀ right₀ : Bool} {whole : Draft → Built} (begun : Begun c₀ table₀ text₀ present₀ amount₀ right₀ whole)
+  where
+    -- room for what grew from the first draft, where the whole grows from it
+    room-for : {s t : Draft} → Grown (counted c₀ table₀ text₀) s → Grown s t → Grown t (whole (counted c₀ table₀ text₀) .draft)
+        → Room (length table₀) (length text₀) (s .counts) (t .counts)
+    unfolding counted
+    room-for {s} {t} before here after =
+        let r = begun .facts .room in
+        record {
+          nodes = stretch (s .counts .nodes) (t .counts .nodes) (r .nodes) (more-nodes before) (more-nodes here) (more-nodes after);
+          used = stretch (s .counts .bytes) (t .counts .bytes) (r .used) (more-bytes before) (more-bytes here) (more-bytes after);
+        }
 
-  -- a part of the whole: the sheet before it grew from the first, and the whole grows from it
-  pub step : {s : Draft} {c : Counts} {table text : List ℕ} → Stands table₀ text₀ s c table text → (f : Draft → Built) → Grown (counted c₀ table₀ text₀) s → Grown s (f s .draft) → Grown (f s .draft) (whole (counted c₀ table₀ text₀) .draft)
-      → {present amount right : Bool} → present ≡ true → amount ≡ true → right ≡ true → {m : Made} {table′ text′ : List ℕ} → outcome m table′ text′ ≡ made c table text present amount right f → Went table₀ text₀ (f s) m table′ text′
-  step h f before here after {present} {amount} {right} p a t e = part h f here (room-for before here after) present amount right p a t e
+    -- a part of the whole: the draft before it grew from the first, and the whole grows from it
+    pub step : {s : Draft} {c : Counts} {table text : List ℕ} → Stands table₀ text₀ s c table text → (f : Draft → Built) → Grown (counted c₀ table₀ text₀) s
+        → Grown s (f s .draft) → Grown (f s .draft) (whole (counted c₀ table₀ text₀) .draft)
+        → {present amount right : Bool} → present ≡ true → amount ≡ true → right ≡ true → {m : Made} {table′ text′ : List ℕ}
+        → outcome m table′ text′ ≡ made c table text present amount right f → Went table₀ text₀ (f s) m table′ text′
+    step h f before here after {present} {amount} {right} p a t e = part h f here (room-for before here after) present amount right p a t e
 
-  -- the first part, where it asks for the whole
-  pub first-went : (b : Built) → Grown (counted c₀ table₀ text₀) (b .draft) → Grown (b .draft) (whole (counted c₀ table₀ text₀) .draft) → {m : Made} {table′ text′ : List ℕ} → outcome m table′ text′ ≡ added b table₀ text₀ → Went table₀ text₀ b m table′ text′
-  first-went b here after o = went-added (begun .stands) b here (room-for (same (counted c₀ table₀ text₀)) here after) o
+    -- the first part, where it asks for the whole
+    pub first-went : (b : Built) → Grown (counted c₀ table₀ text₀) (b .draft) → Grown (b .draft) (whole (counted c₀ table₀ text₀) .draft)
+        → {m : Made} {table′ text′ : List ℕ} → outcome m table′ text′ ≡ added b table₀ text₀ → Went table₀ text₀ b m table′ text′
+    first-went b here after o = went-added (begun .stands) b here (room-for (same (counted c₀ table₀ text₀)) here after) o
 
-  -- the last part gives the whole
-  pub finish : {m : Made} {table text : List ℕ} → Went table₀ text₀ (whole (counted c₀ table₀ text₀)) m table text → outcome m table text ≡ made c₀ table₀ text₀ present₀ amount₀ right₀ whole
-  finish w = done w ∙ sym (begun .whole)
+    -- the last part gives the whole
+    pub finish : {m : Made} {table text : List ℕ} → Went table₀ text₀ (whole (counted c₀ table₀ text₀)) m table text
+        → outcome m table text ≡ made c₀ table₀ text₀ present₀ amount₀ right₀ whole
+    finish w = done w ∙ sym (begun .whole)
 
 -- ---- a first part that asks for the whole
 

@@ -1,6 +1,6 @@
--- Reading a sheet that grew: old nodes keep their words, and a new node has the words that it was made of.
+-- Reading a draft that grew: old nodes keep their words, and a new node has the words that it was made of.
 --     old-word, new-word          a word of an old node, and of the next one
---     append-present              what Append answers is a node of its sheet
+--     append-present              what Append answers is a node of its draft
 -- Assumes nothing.
 use Prim.Native.Nat.{ℕ, _+_, _*_, _<_}
 use native.Mathlib.Omega.{arith}
@@ -22,7 +22,8 @@ old-word {s} {s′} w g n i h k =
 pub new-word : {s : Draft} → Whole s → (words : List ℕ) (i : ℕ) → getD (s .table ++ words) (s .counts .nodes * 4 + i) 0 ≡ getD words i 0
 new-word {s} w words i = ap (λ (n : ℕ). getD (s .table ++ words) (n + i) 0) (sym (w .words)) ∙ getD-append-add (s .table) words i 0
 
-pick-present : (s : Draft) (q : Bool) (x y : Built) → x .node < x .draft .counts .nodes → y .node < y .draft .counts .nodes → pick q x y .node < pick q x y .draft .counts .nodes
+pick-present : (s : Draft) (q : Bool) (x y : Built) → x .node < x .draft .counts .nodes → y .node < y .draft .counts .nodes
+    → pick q x y .node < pick q x y .draft .counts .nodes
 pick-present s true x y h k = h
 pick-present s false x y h k = k
 

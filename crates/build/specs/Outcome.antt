@@ -1,6 +1,10 @@
--- The order of refusals, and what a constructor leaves: its answer, and the whole of table and text.
-use Prim.Native.Nat.{ℕ, _/_}
-use mathlib.Core.Bool.{Bool, not, _&&_, _||_}
+-- What a constructor leaves: document 01's number for its answer, the answer, and the whole of table and text.
+--     number, answerOf     document 01's number for each refusal, and for an answer
+--     asked, askedFor      the order of refusals
+--     outcome, refused, added, settled     a refusal, or what was built
+--     made, firstMade      all parts or nothing; a first part that asks for the whole
+use Prim.Native.Nat.{ℕ, _+_, _/_}
+use mathlib.Core.Bool.{Bool, true, not, _&&_, _||_}
 use mathlib.Core.List.{List}
 use lib.ListN.{length}
 use lib.Dec.{eqb, ltb, leb}
@@ -10,6 +14,7 @@ use Rattle.build.specs.declared.Why.{Why}
 use Rattle.build.specs.declared.Why.the-variants.{Sizes, Operand, Amount, Text, Bytes, Nodes}
 use Rattle.build.specs.declared.Made.{Made}
 use Rattle.build.specs.declared.Made.the-variants.{Node, Refused}
+use Rattle.build.specs.declared.Asks.{Asks}
 use Rattle.build.specs.declared.Asked.{Asked}
 use Rattle.build.specs.declared.Asked.the-variants.{Granted, Denied}
 use Rattle.build.specs.Draft.{Draft, Built, counted, over}
@@ -22,6 +27,11 @@ number Amount = 3
 number Text = 5
 number Bytes = 12
 number Nodes = 10
+
+-- document 01's number for an answer: 0 with a node, else the refusal's
+abbrev pub answerOf : Made → ℕ
+answerOf (Node c n) = 0
+answerOf (Refused why) = number why
 
 -- counts past the lent table or text; a table's last words that make no node don't count
 abbrev pub past : Counts → ℕ → ℕ → Bool
@@ -42,36 +52,61 @@ asked c words bytes present amount text nodes used =
     (pick (not (fits (c .nodes) nodes 1024 (words / 4))) (Denied Nodes)
     Granted)))))
 
+-- the same, by what is to be added
+abbrev pub askedFor : Counts → ℕ → ℕ → Asks → Asked
+askedFor c words bytes asks =
+    asked c words bytes (asks .present) (asks .amount) (asks .text) (c .nodes + asks .nodes) (c .bytes + asks .bytes)
+
+-- no text to be wrong
+abbrev pub asksFor : Bool → Bool → ℕ → ℕ → Asks
+asksFor present amount nodes bytes =
+    record { present = present; amount = amount; text = true; nodes = nodes; bytes = bytes }
+
 -- an answer that adds nothing, or the refusal
 abbrev pub answered : Asked → Made → Made
 answered Granted m = m
 answered (Denied why) m = Refused why
 
--- an answer, and what table and text hold afterwards
+-- an answer with its number, and what table and text hold afterwards
 pub record Outcome : Type 0 where
+  pub answer : ℕ
   pub made : Made
   pub table : List ℕ
   pub text : List ℕ
 
 abbrev pub outcome : Made → List ℕ → List ℕ → Outcome
-outcome made table text = record { made = made; table = table; text = text }
+outcome made table text = record { answer = answerOf made; made = made; table = table; text = text }
+
+-- a refusal has its number and leaves table and text unchanged
+abbrev pub refused : Why → List ℕ → List ℕ → Outcome
+refused why table text = record { answer = number why; made = Refused why; table = table; text = text }
 
 -- an answer taken apart: what goes on from it, or the refusal handed on
 abbrev pub onward : Made → List ℕ → List ℕ → (Counts → ℕ → Outcome) → Outcome
 onward (Node c n) table text next = next c (n .0)
-onward (Refused why) table text next = outcome (Refused why) table text
+onward (Refused why) table text next = refused why table text
 
--- what was built stands over the front of table and text
+-- what was built has number 0 and stands over the front of table and text
 unfoldable pub added : Built → List ℕ → List ℕ → Outcome
-added b table text = outcome (Node (b .draft .counts) (record { 0 = b .node })) (over (b .draft .table) table) (over (b .draft .text) text)
+added b table text =
+    record {
+      answer = 0;
+      made = Node (b .draft .counts) (record { 0 = b .node });
+      table = over (b .draft .table) table;
+      text = over (b .draft .text) text;
+    }
 
--- a refusal leaves table and text unchanged
 abbrev pub settled : Asked → Built → List ℕ → List ℕ → Outcome
 settled Granted b table text = added b table text
-settled (Denied why) b table text = outcome (Refused why) table text
+settled (Denied why) b table text = refused why table text
 
 -- all parts, or nothing
 unfoldable pub made : Counts → List ℕ → List ℕ → Bool → Bool → Bool → (Draft → Built) → Outcome
 made c table text present amount right parts =
     let b = parts (counted c table text) in
     settled (asked c (length table) (length text) present amount right (b .draft .counts .nodes) (b .draft .counts .bytes)) b table text
+
+-- a first part, with which all of a whole is asked for
+abbrev pub firstMade : Counts → List ℕ → List ℕ → Asks → (Draft → Built) → Outcome
+firstMade c table text asks part =
+    settled (askedFor c (length table) (length text) asks) (part (counted c table text)) table text

@@ -1,4 +1,4 @@
--- What each constructor adds to a sheet, where there is room for it. A composed one adds what its parts in order add.
+-- What each constructor adds to a draft, where there is room for it. A composed one adds what its parts in order add.
 use Prim.Native.Nat.{ℕ, _+_}
 use mathlib.Core.Bool.{Bool, _&&_, _||_}
 use mathlib.Core.List.{List, [], _∷_}

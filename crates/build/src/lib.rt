@@ -8,14 +8,19 @@ ghost use Prim.Native.Nat.{_+_, _-_, _*_, _≤_, _<_};
 ghost use lib.ListN.{length, take};
 ghost use lib.Dec.{eqb};
 ghost use Rattle.table.specs.Node.{word};
-ghost use Rattle.build.specs.Draft.{countsOf, counted, over, add};
+ghost use Rattle.build.specs.Draft.{countsOf, counted, over, older, add};
 ghost use Rattle.build.specs.Parts.{stays, nest};
 ghost use Rattle.build.specs.Solid.{nestAdds};
-ghost use Rattle.build.specs.Outcome.{fits, asked, answered, outcome, settled, onward};
+ghost use Rattle.build.specs.Outcome.{fits, askedFor, asksFor, answered, outcome, onward, made, firstMade};
 ghost use Rattle.build.specs.Constructors.{has, nestRight, appendMade};
 use buffer::utf8::below_128;
+use table::GROUP;
 use table::Indent;
+use table::NEST;
+use table::NIL;
 use table::NodeNo;
+use table::TEXT;
+use table::Words;
 
 mod composed;
 mod lists;
@@ -89,22 +94,23 @@ pub fn nest_right(amount: Indent, way: u32) -> bool
     amount.0 <= 1000 && way <= 1
 }
 
-// Puts four words where node n stands.
-fn put(table: &mut [u32], n: usize, k: u32, a: u32, b: u32, c: u32)
+// Puts the words where node n stands.
+fn put(table: &mut [u32], n: usize, words: Words)
     requires { ⌜ n * 4 + 3 < length (now table) ⌝ }
-    ensures { λ _. ⌜ now (table .exit) ≡ over (take (n * 4) (now (table .entry)) ++ (k ∷ a ∷ b ∷ c ∷ [])) (now (table .entry)) ⌝ }
+    ensures { λ _. ⌜ now (table .exit)
+        ≡ over (take (n * 4) (now (table .entry)) ++ (words .kind ∷ words .a ∷ words .b ∷ words .c ∷ [])) (now (table .entry)) ⌝ }
 {
     let at = n * 4;
-    table[at] = k;
-    table[at + 1] = a;
-    table[at + 2] = b;
-    table[at + 3] = c;
+    table[at] = words.kind;
+    table[at + 1] = words.a;
+    table[at + 2] = words.b;
+    table[at + 3] = words.c;
 }
 
 impl Counts {
     // The first refusal, in document 01's order, of what is asked for over a table and a text of these lengths.
     pub fn ask(self, words: usize, bytes: usize, asks: Asks) -> Asked
-        ensures { λ r. ⌜ r ≡ asked self words bytes (asks .present) (asks .amount) (asks .text) (self .nodes + asks .nodes) (self .bytes + asks .bytes) ⌝ }
+        ensures { λ r. ⌜ r ≡ askedFor self words bytes asks ⌝ }
     {
         // what the test below it would refuse for
         let mut why = Why::Sizes;
@@ -157,7 +163,7 @@ impl Counts {
     pub fn is_nil(self, table: &[u32], n: NodeNo) -> bool
         ensures { λ r. ⌜ r ≡ eqb (word (take (self .nodes * 4) (now (table .entry))) (n .0) 0) 0 ⌝ }
     {
-        self.word(table, n, 0) == 0
+        self.word(table, n, 0) == NIL
     }
 
     // Whether n is a present node.
@@ -178,13 +184,13 @@ impl Counts {
         ensures { λ r. ⌜ r ≡ stays (counted self (now (table .entry)) (now (text .entry))) (n .0) ⌝ }
     {
         let k = self.word(table, n, 0);
-        if k == 0 {
+        if k == NIL {
             return true;
         }
-        if k == 2 {
+        if k == GROUP {
             return true;
         }
-        if k != 6 {
+        if k != TEXT {
             return false;
         }
         let from = self.word(table, n, 1) as usize;
@@ -200,12 +206,14 @@ impl Counts {
     }
 
     // The next node, where there is room for it.
-    fn add(self, table: &mut [u32], k: u32, a: u32, b: u32, c: u32) -> Made
+    fn add(self, table: &mut [u32], words: Words) -> Made
         requires { ⌜ (self .nodes < 1024) × (self .nodes * 4 + 3 < length (now table)) ⌝ }
-        ensures { λ r. ⌜ (r ≡ Made.Node (countsOf (self .nodes + 1) (self .bytes)) (record { 0 = self .nodes })) × (now (table .exit) ≡ over (take (self .nodes * 4) (now (table .entry)) ++ (k ∷ a ∷ b ∷ c ∷ [])) (now (table .entry))) ⌝ }
+        ensures { λ r. ⌜ (r ≡ Made.Node (countsOf (self .nodes + 1) (self .bytes)) (record { 0 = self .nodes }))
+            × (now (table .exit)
+            ≡ over (take (self .nodes * 4) (now (table .entry)) ++ (words .kind ∷ words .a ∷ words .b ∷ words .c ∷ [])) (now (table .entry))) ⌝ }
     {
         let nodes = self.nodes;
-        put(table, nodes as usize, k, a, b, c);
+        put(table, nodes as usize, words);
         Made::Node(
             Counts {
                 nodes: nodes + 1,
@@ -215,67 +223,68 @@ impl Counts {
         )
     }
 
-    // A node of these words, which asks for all of a whole that it is the first part of: so many nodes and bytes, itself among them.
-    fn node(
-        self,
-        table: &mut [u32],
-        text: &[u8],
-        present: bool,
-        amount: bool,
-        nodes: usize,
-        bytes: usize,
-        k: u32,
-        a: u32,
-        b: u32,
-        c: u32,
-    ) -> Made
-        requires { ⌜ 0 < nodes ⌝ }
-        ensures { λ r. ⌜ outcome r (now (table .exit)) (now (text .entry)) ≡ settled (asked self (length (now (table .entry))) (length (now (text .entry))) present amount true (self .nodes + nodes) (self .bytes + bytes)) (add (counted self (now (table .entry)) (now (text .entry))) k a b c) (now (table .entry)) (now (text .entry)) ⌝ }
+    // A node of these words, with which all of a whole is asked for that it is the first part of.
+    fn node(self, table: &mut [u32], text: &[u8], asks: Asks, words: Words) -> Made
+        requires { ⌜ 0 < asks .nodes ⌝ }
+        ensures { λ r. ⌜ outcome r (now (table .exit)) (now (text .entry))
+            ≡ firstMade self (now (table .entry)) (now (text .entry)) asks
+            (λ s. add s (words .kind) (words .a) (words .b) (words .c)) ⌝ }
     {
-        let asked = self.ask(
-            table.len(),
-            text.len(),
-            Asks {
-                present: present,
-                amount: amount,
-                text: true,
-                nodes: nodes,
-                bytes: bytes,
-            },
-        );
+        let asked = self.ask(table.len(), text.len(), asks);
         if let Asked::Denied(why) = asked {
             return Made::Refused(why);
         }
-        self.add(table, k, a, b, c)
+        self.add(table, words)
     }
 
-    // An older node, given back, which asks for so many nodes more over a table and a text of these lengths.
-    fn older(
-        self,
-        words: usize,
-        bytes: usize,
-        present: bool,
-        amount: bool,
-        more: usize,
-        n: NodeNo,
-    ) -> Made
-        ensures { λ r. ⌜ r ≡ answered (asked self words bytes present amount true (self .nodes + more) (self .bytes + 0)) (Made.Node self n) ⌝ }
+    // One node of these words, by itself; nothing but its operands can be wrong.
+    fn one(self, table: &mut [u32], text: &[u8], present: bool, words: Words) -> Made
+        ensures { λ r. ⌜ outcome r (now (table .exit)) (now (text .entry))
+            ≡ made self (now (table .entry)) (now (text .entry)) present true true
+            (λ s. add s (words .kind) (words .a) (words .b) (words .c)) ⌝ }
     {
-        let asked = self.ask(
-            words,
-            bytes,
+        self.node(
+            table,
+            text,
             Asks {
                 present: present,
-                amount: amount,
+                amount: true,
                 text: true,
-                nodes: more,
+                nodes: 1,
                 bytes: 0,
             },
-        );
+            words,
+        )
+    }
+
+    // An older node, given back, with which more is asked for over a table and a text of these lengths.
+    fn older(self, words: usize, bytes: usize, asks: Asks, n: NodeNo) -> Made
+        ensures { λ r. ⌜ r ≡ answered (askedFor self words bytes asks) (Made.Node self n) ⌝ }
+    {
+        let asked = self.ask(words, bytes, asks);
         if let Asked::Denied(why) = asked {
             return Made::Refused(why);
         }
         Made::Node(self, n)
+    }
+
+    // An older node by itself; nothing but the operands can be wrong.
+    fn given_back(self, table: &[u32], text: &[u8], present: bool, n: NodeNo) -> Made
+        ensures { λ r. ⌜ outcome r (now (table .entry)) (now (text .entry))
+            ≡ made self (now (table .entry)) (now (text .entry)) present true true (λ s. older s (n .0)) ⌝ }
+    {
+        self.older(
+            table.len(),
+            text.len(),
+            Asks {
+                present: present,
+                amount: true,
+                text: true,
+                nodes: 0,
+                bytes: 0,
+            },
+            n,
+        )
     }
 
     // Whether Nest gives the node back.
@@ -296,31 +305,41 @@ impl Counts {
         more: usize,
     ) -> Made
         requires { ⌜ more ≤ 1 ⌝ }
-        ensures { λ r. ⌜ outcome r (now (table .exit)) (now (text .entry)) ≡ settled (asked self (length (now (table .entry))) (length (now (text .entry))) (has self (n .0)) (nestRight (amount .0) way) true (self .nodes + (nestAdds (take (self .nodes * 4) (now (table .entry))) (n .0) (amount .0) + more)) (self .bytes + 0)) (nest (counted self (now (table .entry)) (now (text .entry))) (n .0) (amount .0) way) (now (table .entry)) (now (text .entry)) ⌝ }
+        ensures { λ r. ⌜ outcome r (now (table .exit)) (now (text .entry))
+            ≡ firstMade self (now (table .entry)) (now (text .entry))
+            (asksFor (has self (n .0)) (nestRight (amount .0) way) (nestAdds (take (self .nodes * 4) (now (table .entry))) (n .0) (amount .0) + more) 0)
+            (λ s. nest s (n .0) (amount .0) way) ⌝ }
     {
-        let present = self.has(n);
-        let right = nest_right(amount, way);
+        let mut asks = Asks {
+            present: self.has(n),
+            amount: nest_right(amount, way),
+            text: true,
+            nodes: more,
+            bytes: 0,
+        };
         if self.nest_stays(table, n, amount) {
-            return self.older(table.len(), text.len(), present, right, more, n);
+            return self.older(table.len(), text.len(), asks, n);
         }
+        asks.nodes = 1 + more;
         self.node(
             table,
             text,
-            present,
-            right,
-            1 + more,
-            0,
-            4,
-            n.0,
-            amount.0,
-            way,
+            asks,
+            Words {
+                kind: NEST,
+                a: n.0,
+                b: amount.0,
+                c: way,
+            },
         )
     }
 }
 
 // What was made, with a node behind it; a refusal is handed on.
 fn appended(made: Made, table: &mut [u32], text: &[u8], n: NodeNo) -> Made
-    ensures { λ r. ⌜ outcome r (now (table .exit)) (now (text .entry)) ≡ onward made (now (table .entry)) (now (text .entry)) (λ c before. appendMade c (now (table .entry)) (now (text .entry)) before (n .0)) ⌝ }
+    ensures { λ r. ⌜ outcome r (now (table .exit)) (now (text .entry))
+        ≡ onward made (now (table .entry)) (now (text .entry))
+        (λ c before. appendMade c (now (table .entry)) (now (text .entry)) before (n .0)) ⌝ }
 {
     let Made::Node(c, before) = made else {
         return made;

@@ -7,11 +7,14 @@ ghost use lib.ListN.{length, take};
 ghost use Rattle.build.specs.Solid.{solid};
 ghost use Rattle.build.specs.Outcome.{outcome};
 ghost use Rattle.build.specs.Constructors.{has, hasAll, encloseMade, concatMade, intersperseMade};
+use crate::Asks;
 use crate::Counts;
 use crate::Made;
 use crate::appended;
 use crate::less_one;
+use table::NIL;
 use table::NodeNo;
+use table::Words;
 
 impl Counts {
     pub fn has_all(self, ns: &[u32]) -> bool
@@ -63,7 +66,9 @@ impl Counts {
     // How many nodes `intersperse` adds to some.
     fn separated_adds(self, table: &[u32], nodes: &[u32], separator: NodeNo) -> usize
         requires { ⌜ 0 < length (now nodes) ⌝ }
-        ensures { λ r. ⌜ r ≡ solid (take (self .nodes * 4) (now (table .entry))) (now (nodes .entry)) + (length (now (nodes .entry)) - 1) * solid (take (self .nodes * 4) (now (table .entry))) (separator .0 ∷ []) - 1 ⌝ }
+        ensures { λ r. ⌜ r
+            ≡ solid (take (self .nodes * 4) (now (table .entry))) (now (nodes .entry))
+            + (length (now (nodes .entry)) - 1) * solid (take (self .nodes * 4) (now (table .entry))) (separator .0 ∷ []) - 1 ⌝ }
     {
         let solid = self.solid(table, nodes) + self.separators(table, separator, nodes.len() - 1);
         less_one(solid)
@@ -71,21 +76,22 @@ impl Counts {
 
     // Starts from the first; of none one Nil.
     pub fn concat(self, table: &mut [u32], text: &[u8], nodes: &[u32]) -> Made
-        ensures { λ r. ⌜ outcome r (now (table .exit)) (now (text .entry)) ≡ concatMade self (now (table .entry)) (now (text .entry)) (now (nodes .entry)) ⌝ }
+        ensures { λ r. ⌜ outcome r (now (table .exit)) (now (text .entry))
+            ≡ concatMade self (now (table .entry)) (now (text .entry)) (now (nodes .entry)) ⌝ }
     {
         if nodes.len() == 0 {
             return self.nil(table, text);
         }
         let present = self.has_all(nodes);
         let more = less_one(self.solid(table, nodes));
-        let mut made = self.older(
-            table.len(),
-            text.len(),
-            present,
-            true,
-            more,
-            NodeNo(nodes[0]),
-        );
+        let asks = Asks {
+            present: present,
+            amount: true,
+            text: true,
+            nodes: more,
+            bytes: 0,
+        };
+        let mut made = self.older(table.len(), text.len(), asks, NodeNo(nodes[0]));
         let mut i = 1;
         while i < nodes.len() {
             let Made::Node(c, n) = made else {
@@ -106,7 +112,8 @@ impl Counts {
         before: NodeNo,
         after: NodeNo,
     ) -> Made
-        ensures { λ r. ⌜ outcome r (now (table .exit)) (now (text .entry)) ≡ encloseMade self (now (table .entry)) (now (text .entry)) (n .0) (before .0) (after .0) ⌝ }
+        ensures { λ r. ⌜ outcome r (now (table .exit)) (now (text .entry))
+            ≡ encloseMade self (now (table .entry)) (now (text .entry)) (n .0) (before .0) (after .0) ⌝ }
     {
         let nodes = [before.0, n.0, after.0];
         self.concat(table, text, &nodes)
@@ -120,21 +127,32 @@ impl Counts {
         nodes: &[u32],
         separator: NodeNo,
     ) -> Made
-        ensures { λ r. ⌜ outcome r (now (table .exit)) (now (text .entry)) ≡ intersperseMade self (now (table .entry)) (now (text .entry)) (now (nodes .entry)) (separator .0) ⌝ }
+        ensures { λ r. ⌜ outcome r (now (table .exit)) (now (text .entry))
+            ≡ intersperseMade self (now (table .entry)) (now (text .entry)) (now (nodes .entry)) (separator .0) ⌝ }
     {
         let present = self.has_with(separator, nodes);
         if nodes.len() == 0 {
-            return self.node(table, text, present, true, 1, 0, 0, 0, 0, 0);
+            return self.one(
+                table,
+                text,
+                present,
+                Words {
+                    kind: NIL,
+                    a: 0,
+                    b: 0,
+                    c: 0,
+                },
+            );
         }
         let more = self.separated_adds(table, nodes, separator);
-        let mut made = self.older(
-            table.len(),
-            text.len(),
-            present,
-            true,
-            more,
-            NodeNo(nodes[0]),
-        );
+        let asks = Asks {
+            present: present,
+            amount: true,
+            text: true,
+            nodes: more,
+            bytes: 0,
+        };
+        let mut made = self.older(table.len(), text.len(), asks, NodeNo(nodes[0]));
         let mut i = 1;
         while i < nodes.len() {
             let Made::Node(c, n) = made else {

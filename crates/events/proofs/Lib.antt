@@ -1,6 +1,7 @@
 -- Laws that the walks cite.
 pub mod Filled
 pub mod Local
+pub mod Steps
 pub mod Published
 pub mod Staging
-pub mod Unique
+pub mod Demands

@@ -1,4 +1,7 @@
 -- The records published from the words of events are those events, and no event past them.
+--     records-alike, records-first    records by their number
+--     event-past, event-first         the words of one event in front of others: past them are the others, and the first record is that event
+--     published-held                  all the records of a slice
 -- Assumes nothing.
 use mathlib.Core.Path.{_≡_, refl, sym, ap, _∙_}
 use mathlib.Core.List.{List, [], _∷_, _++_}
@@ -8,11 +11,13 @@ use native.Mathlib.Nat.{not-suc-le-zero, le-of-suc-le-suc}
 use borrow.Author.Tests.{lt-ltb, le-ltb}
 use lib.Dec.{ltb, leb·suc-suc}
 use lib.ListN.{length, getD, replicate}
+use lib.Seq.{getD-append-add}
 use Rattle.rules.specs.Layout as rules
-use Rattle.rules.specs.Call.{wordsOf}
+use Rattle.rules.specs.Call.{eventWords, wordsOf}
+use Rattle.layout.specs.Called.{held}
 use Rattle.events.specs.declared.Event.{Event}
 use Rattle.events.specs.Records.{none, eventAt, recordAt, records, published}
-use Rattle.events.specs.Called.{recordOf, recordsOf, noted}
+use Rattle.events.specs.Called.{recordOf, recordsOf, asRecords}
 use Rattle.events.proofs.Filled.{records-same}
 
 -- ---- by number
@@ -27,46 +32,51 @@ unfolding records
 records-first f zero = refl
 records-first f (suc m) = ap (λ (l : List _). l ++ (f (suc m) ∷ [])) (records-first f m)
 
--- ---- by words
+-- ---- by words: an event's, and in front of what others
 
--- words past the first record's
-later : (k : ℕ) (w : List ℕ) (a b c j : ℕ) → getD (a ∷ b ∷ c ∷ w) (suc k * 3 + j) 0 ≡ getD w (k * 3 + j) 0
-later k w a b c j =
-    let e : suc k * 3 + j ≡ suc (suc (suc (k * 3 + j))) = omega arith in
-    ap (λ (i : ℕ). getD (a ∷ b ∷ c ∷ w) i 0) e
+abbrev of : rules.Event → List ℕ → List ℕ
+of e w = e .offset ∷ e .mark ∷ e .label ∷ w
 
--- past the first there are the others
-record-later : (a b c : ℕ) (w : List ℕ) (n k : ℕ) → recordAt (a ∷ b ∷ c ∷ w) (suc n) (suc k) ≡ recordAt w n k
+-- past an event's words
+word-past : (e : rules.Event) (w : List ℕ) (k j : ℕ) → getD (of e w) (suc k * eventWords + j) 0 ≡ getD w (k * eventWords + j) 0
+word-past e w k j =
+    let past : suc k * eventWords + j ≡ eventWords + (k * eventWords + j) = omega arith in
+    ap (λ (i : ℕ). getD (of e w) i 0) past ∙ getD-append-add (of e []) w (k * eventWords + j) 0
+
+-- past an event there are the others
+event-past : (e : rules.Event) (w : List ℕ) (n k : ℕ) → recordAt (of e w) (suc n) (suc k) ≡ recordAt w n k
 unfolding recordAt eventAt
-record-later a b c w n k =
-    let l : List ℕ = a ∷ b ∷ c ∷ w in
-    let all : suc (suc (suc (length w))) / 3 ≡ suc (length w / 3) = omega arith in
+event-past e w n k =
+    let all : length (of e w) / eventWords ≡ suc (length w / eventWords) = omega arith in
     let counted : ltb (suc k) (suc n) ≡ ltb k n = leb·suc-suc (suc k) n in
-    let held : ltb (suc k) (suc (suc (suc (length w))) / 3) ≡ ltb k (length w / 3) = ap (λ (m : ℕ). ltb (suc k) m) all ∙ leb·suc-suc (suc k) (length w / 3) in
-    let at : (j : ℕ) → getD l (suc k * 3 + j) 0 ≡ getD w (k * 3 + j) 0 = later k w a b c in
-    let place : suc k * 3 ≡ suc (suc (suc (k * 3))) = omega arith in
-    let at-first : getD l (suc k * 3) 0 ≡ getD w (k * 3) 0 = ap (λ (i : ℕ). getD l i 0) place in
-    simp (counted, held, at-first, at)
+    let lent : ltb (suc k) (length (of e w) / eventWords) ≡ ltb k (length w / eventWords) = ap (ltb (suc k)) all ∙ leb·suc-suc (suc k) (length w / eventWords) in
+    let place : suc k * eventWords ≡ suc k * eventWords + 0 = omega arith in
+    let place′ : k * eventWords + 0 ≡ k * eventWords = omega arith in
+    let first : getD (of e w) (suc k * eventWords) 0 ≡ getD w (k * eventWords) 0 =
+    ap (λ (i : ℕ). getD (of e w) i 0) place ∙ word-past e w k 0 ∙ ap (λ (i : ℕ). getD w i 0) place′ in
+    simp (counted, lent, first, word-past e w k)
 
-record-first : (a b c : ℕ) (w : List ℕ) (n : ℕ) → recordAt (a ∷ b ∷ c ∷ w) (suc n) 0 ≡ record { offset = a; mark = b; label = c }
+event-first : (e : rules.Event) (w : List ℕ) (n : ℕ) → recordAt (of e w) (suc n) 0 ≡ recordOf e
 unfolding recordAt eventAt
-record-first a b c w n = simp (lt-ltb 0 (suc n) (omega arith), lt-ltb 0 (suc (suc (suc (length w))) / 3) (omega arith))
+event-first e w n = simp (lt-ltb 0 (suc n) (omega arith), lt-ltb 0 (length (of e w) / eventWords) (omega arith))
 
 none-at : (w : List ℕ) (k : ℕ) → recordAt w 0 k ≡ none
 unfolding recordAt
 none-at w k = simp (le-ltb k 0 (omega arith))
 
-pub published-noted : (es : List rules.Event) (more : List ℕ) (m : ℕ) → length es ≤ m → published (wordsOf es ++ more) (length es) m ≡ noted es m
+pub published-held : (es : List rules.Event) (more : List ℕ) (m : ℕ) → length es ≤ m → published (wordsOf es ++ more) (length es) m ≡ held asRecords es m
 unfolding wordsOf recordsOf
-published-noted [] more m h =
+published-held [] more m h =
     let e : m - 0 ≡ m = omega arith in
     records-alike (recordAt more 0) (λ (_ : ℕ). none) (none-at more) m ∙ records-same none m ∙ ap (λ (k : ℕ). replicate k none) (sym e)
-published-noted (e ∷ es) more zero h = absurd (not-suc-le-zero h)
-published-noted (e ∷ es) more (suc m) h =
+published-held (e ∷ es) more zero h = absurd (not-suc-le-zero h)
+published-held (e ∷ es) more (suc m) h =
     let w : List ℕ = wordsOf es ++ more in
     let n : ℕ = length es in
-    let k : suc m - suc n ≡ m - n = omega arith in
-    records-first (recordAt (e .offset ∷ e .mark ∷ e .label ∷ w) (suc n)) m
-    ∙ ap (λ (x : Event). x ∷ records (λ (j : ℕ). recordAt (e .offset ∷ e .mark ∷ e .label ∷ w) (suc n) (suc j)) m) (record-first (e .offset) (e .mark) (e .label) w n)
-    ∙ ap (λ (l : List Event). recordOf e ∷ l) (records-alike _ (recordAt w n) (record-later (e .offset) (e .mark) (e .label) w n) m ∙ published-noted es more m (le-of-suc-le-suc h))
-    ∙ ap (λ (j : ℕ). recordOf e ∷ (recordsOf es ++ replicate j none)) (sym k)
+    let left : suc m - suc (length (recordsOf es)) ≡ m - length (recordsOf es) = omega arith in
+    let others : records (λ (j : ℕ). recordAt (of e w) (suc n) (suc j)) m ≡ held asRecords es m =
+    records-alike _ (recordAt w n) (event-past e w n) m ∙ published-held es more m (le-of-suc-le-suc h) in
+    records-first (recordAt (of e w) (suc n)) m
+    ∙ ap (λ (x : Event). x ∷ records (λ (j : ℕ). recordAt (of e w) (suc n) (suc j)) m) (event-first e w n)
+    ∙ ap (λ (l : List Event). recordOf e ∷ l) others
+    ∙ ap (λ (j : ℕ). recordOf e ∷ (recordsOf es ++ replicate j none)) (sym left)

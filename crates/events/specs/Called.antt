@@ -1,12 +1,12 @@
--- What a call over event records promises: its numbers and every lent buffer afterwards are those of the rules' definition of a call.
+-- What a call over event records promises: layout's promise, with its events as records.
 -- Assumes nothing.
-use Prim.Native.Nat.{ℕ, _-_}
-use mathlib.Core.Path.{_≡_}
-use mathlib.Core.List.{List, [], _∷_, _++_}
-use lib.ListN.{length, replicate}
+use Prim.Native.Nat.{ℕ}
+use mathlib.Core.List.{List, [], _∷_}
+use lib.ListN.{length}
 use Rattle.rules.specs.Layout as rules
-use Rattle.rules.specs.Call.{Given, call, padded}
+use Rattle.rules.specs.Call.{Given, call}
 use Rattle.layout.specs.declared.Report.{Report}
+use Rattle.layout.specs.Called.{Form, Returned}
 use Rattle.events.specs.declared.Event.{Event}
 use Rattle.events.specs.Records.{none}
 
@@ -14,6 +14,10 @@ use Rattle.events.specs.Records.{none}
 abbrev pub asked : List ℕ → List ℕ → ℕ → ℕ → ℕ → ℕ → ℕ → Given
 asked table text width limit room slots work =
     record { table = table; text = text; width = width; limit = limit; room = room; slots = slots; work = work }
+
+-- the same with the three buffers themselves
+abbrev pub lent : List ℕ → List ℕ → ℕ → ℕ → List ℕ → List Event → List ℕ → Given
+lent table text width limit out events work = asked table text width limit (length out) (length events) (length work)
 
 -- the record of an event of the rules
 abbrev pub recordOf : rules.Event → Event
@@ -23,16 +27,12 @@ unfoldable pub recordsOf : List rules.Event → List Event
 recordsOf [] = []
 recordsOf (e ∷ es) = recordOf e ∷ recordsOf es
 
--- the used records; everything past them is zero
-abbrev pub noted : List rules.Event → ℕ → List Event
-noted es slots = recordsOf es ++ replicate (slots - length es) none
+abbrev pub asRecords : Form Event
+asRecords = record { extent = λ n. n; hold = recordsOf; blank = none }
 
-pub record Called (g : Given) (r : Report) (out : List ℕ) (events : List Event) (work : List ℕ) : Type 0 where
-  pub answer : r .answer ≡ call g .answer
-  pub place : r .place .0 ≡ call g .place
-  pub steps : r .steps ≡ call g .steps
-  pub used : r .used ≡ length (call g .bytes)
-  pub marks : r .marks ≡ length (call g .events)
-  pub output : out ≡ padded (call g .bytes) (g .room)
-  pub records : events ≡ noted (call g .events) (g .slots)
-  pub cleared : work ≡ replicate (g .work) 0
+abbrev pub Called : Given → Report → List ℕ → List Event → List ℕ → Type 0
+Called g = Returned asRecords (call g) (g .room) (g .slots) (g .work)
+
+-- as the contract has it: what is lent, then what is handed back
+abbrev pub calledWith : List ℕ → List ℕ → ℕ → ℕ → List ℕ → List Event → List ℕ → Report → List ℕ → List Event → List ℕ → Type 0
+calledWith table text width limit out events work = Called (lent table text width limit out events work)

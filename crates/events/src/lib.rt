@@ -1,15 +1,15 @@
 // Event records: a lent slice of structs, each an offset, an open-or-close mark (1 or 0) and a label.
 //
 // The engine notes its events as words; the functions here, proved by walks of their code, are all that write records.
-// A record's size stands in one place, `rules::EVENT_WORDS` with `eventWords` of rules' specs. A field more is a field of `Event`, a line of
-// `record_at` and of `eventAt`, and that number.
+// A record's size stands in one place, `rules::EVENT_WORDS` with `eventWords` of rules' specs. A field more is that number, a field of `Event`, a
+// line of `none`, `clear` and `record_at`, and one of `none`, `eventAt` and `recordOf` in specs/.
 use layout::Report;
 use rules::EVENT_WORDS;
 use table::NodeNo;
 ghost use mathlib.Core.Path.{_≡_};
 ghost use lib.ListN.{length, set, replicate};
 ghost use Rattle.events.specs.Records.{none, recordAt, published, most};
-ghost use Rattle.events.specs.Called.{asked, Called};
+ghost use Rattle.events.specs.Called.{asked, Called, calledWith};
 
 #[repr(C)]
 pub struct Event {
@@ -29,11 +29,11 @@ pub fn none() -> Event
     }
 }
 
-// Record k of the first `marks` that the words hold; past them there is none.
-pub fn record_at(words: &[u32], marks: u32, k: usize) -> Event
-    ensures { λ r. ⌜ r ≡ recordAt (now (words .entry)) marks k ⌝ }
+// Record k of the first `used` that the words hold; past them there is none.
+pub fn record_at(words: &[u32], used: u32, k: usize) -> Event
+    ensures { λ r. ⌜ r ≡ recordAt (now (words .entry)) used k ⌝ }
 {
-    if marks as usize <= k {
+    if used as usize <= k {
         return none();
     }
     if words.len() / EVENT_WORDS <= k {
@@ -71,13 +71,13 @@ pub fn clear(events: &mut [Event])
     }
 }
 
-// Writes every record: the first `marks` from the words, zeros past them.
-pub fn publish(words: &[u32], marks: u32, out: &mut [Event])
-    ensures { λ _. ⌜ now (out .exit) ≡ published (now (words .entry)) marks (length (now (out .entry))) ⌝ }
+// Writes every record: the first `used` from the words, zeros past them.
+pub fn publish(words: &[u32], used: u32, out: &mut [Event])
+    ensures { λ _. ⌜ now (out .exit) ≡ published (now (words .entry)) used (length (now (out .entry))) ⌝ }
 {
     let mut i = 0;
     while i < out.len() {
-        out[i] = record_at(words, marks, i);
+        out[i] = record_at(words, used, i);
         i += 1;
     }
 }
@@ -99,7 +99,9 @@ fn staged(
     work: &mut [u32],
 ) -> Report
     requires { ⌜ length (now words) ≡ most ⌝ }
-    ensures { λ r. ⌜ Called (asked (now (table .entry)) (now (text .entry)) width limit (length (now (out .entry))) slots (length (now (work .entry)))) r (now (out .exit)) (published (now (words .exit)) (r .marks) slots) (now (work .exit)) ⌝ }
+    ensures { λ r. ⌜ Called
+        (asked (now (table .entry)) (now (text .entry)) width limit (length (now (out .entry))) slots (length (now (work .entry))))
+        r (now (out .exit)) (published (now (words .exit)) (r .events) slots) (now (work .exit)) ⌝ }
 {
     if RECORDS < slots {
         buffer::clear_bytes(out);
@@ -109,7 +111,7 @@ fn staged(
             place: NodeNo(0),
             steps: 0,
             used: 0,
-            marks: 0,
+            events: 0,
         };
     }
     let n = slots * EVENT_WORDS;
@@ -126,12 +128,14 @@ pub fn layout(
     events: &mut [Event],
     work: &mut [u32],
 ) -> Report
-    ensures { λ r. ⌜ Called (asked (now (table .entry)) (now (text .entry)) width limit (length (now (out .entry))) (length (now (events .entry))) (length (now (work .entry)))) r (now (out .exit)) (now (events .exit)) (now (work .exit)) ⌝ }
+    ensures { λ r. ⌜ calledWith
+        (now (table .entry)) (now (text .entry)) width limit (now (out .entry)) (now (events .entry)) (now (work .entry))
+        r (now (out .exit)) (now (events .exit)) (now (work .exit)) ⌝ }
 {
     let mut words = [0u32; WORDS];
     let slots = events.len();
     let r = staged(table, text, width, limit, out, slots, &mut words, work);
-    let marks = r.marks;
-    publish(&words, marks, events);
+    let used = r.events;
+    publish(&words, used, events);
     r
 }

@@ -22,25 +22,27 @@ use Rattle.block.specs.declared.Block.{Block}
 use Rattle.block.specs.Block.{formatMade}
 use Rattle.block.specs.Documents.{blockDoc}
 use Rattle.block.proofs.Alternatives.{format-promise}
-use Rattle.pallets.specs.Lines.{lines}
-use Rattle.tolerance.specs.Standing.{rowCount, outNotes, Names}
-use Rattle.tolerance.specs.declared.Next.{Next}
-use Rattle.tolerance.specs.declared.Next.the-variants.{NoMore}
-use Rattle.pallets.proofs.Reading.{done}
-use Rattle.words.specs.Bytes.{Placed}
+use Rattle.buffer.specs.Parts.{lines}
+use Rattle.results.specs.Standing.{rowCount, outNotes, Names}
+use Rattle.results.specs.declared.tolerance.Next.{Next}
+use Rattle.results.specs.declared.tolerance.Next.the-variants.{NoMore}
+use Rattle.buffer.proofs.Reading.{done}
+use Rattle.buffer.specs.Placing.{Placed}
 use Rattle.footer.specs.Digits.{digits}
 use Rattle.words.specs.Documents.{leafDoc}
 use Rattle.words.specs.Build.{Is, Gives}
 use Rattle.footer.specs.Documents.{oneText, allText, withinText, withinDoc, commaDoc, headedDoc, toldDoc, footerDoc}
 use Rattle.words.proofs.Chain.{gives}
-use Rattle.words.proofs.Placing.{place-adds, placed-length, then-adds, written-at}
+use Rattle.buffer.proofs.Placing.{place-adds, placed-length, then-adds, written-at}
 use Rattle.footer.proofs.Digits.{number-fits}
 
 -- ---- all within tolerance
 
 -- three parts put into a row of blanks, a number's digits in the middle
-pub said-of-all : (n : ℕ) (a b part : List ℕ) → part ≡ digits n → {o₁ o₂ o₃ : List ℕ} {r₁ r₂ r₃ : ℕ} → Placed (replicate 64 32) 0 a o₁ r₁ → Placed o₁ r₁ part o₂ r₂ → Placed o₂ r₂ b o₃ r₃ → length a + length b ≤ 44 → take r₃ o₃ ≡ a ++ digits n ++ b
-said-of-all n a b part is {o₁} {o₂} {o₃} {r₁} {r₂} {r₃} p q z h =
+pub said-of-all : (n : ℕ) (a b : List ℕ) {part : List ℕ} → part ≡ digits n
+    → {o₁ o₂ o₃ : List ℕ} {r₁ r₂ r₃ : ℕ} → Placed (replicate 64 32) 0 a o₁ r₁ → Placed o₁ r₁ part o₂ r₂ → Placed o₂ r₂ b o₃ r₃
+    → length a + length b ≤ 44 → take r₃ o₃ ≡ a ++ digits n ++ b
+said-of-all n a b {part} is {o₁} {o₂} {o₃} {r₁} {r₂} {r₃} p q z h =
     let blank : List ℕ = replicate 64 32 in
     let l = placed-length p (omega arith) in
     let l₂ = placed-length q (l .1) in
@@ -57,25 +59,25 @@ module _ (rows : ℕ) where
   unfolding withinDoc
   within-all e = rw (ne-eqb rows 1 e)
 
-  -- ---- so many out of tolerance
+-- ---- so many out of tolerance
 
-  module _ (notes : List (List ℕ)) (out : ℕ) (are : out ≡ length notes) where
-    pub told-none : out ≡ 0 → withinDoc rows ≡ toldDoc rows notes
-    unfolding toldDoc
-    told-none z = rw (← are, eq-eqb out 0 z)
+module _ (rows : ℕ) (notes : List (List ℕ)) {out : ℕ} where
+  pub told-none : out ≡ 0 → out ≡ length notes → withinDoc rows ≡ toldDoc rows notes
+  unfolding toldDoc
+  told-none z are = rw (← are, eq-eqb out 0 z)
 
-    pub told-some : (out ≡ 0 → ⊥) → headedDoc (intersperseDoc (map leafDoc notes) commaDoc) ≡ toldDoc rows notes
-    unfolding toldDoc
-    told-some z = rw (← are, ne-eqb out 0 z)
+  pub told-some : (out ≡ 0 → ⊥) → out ≡ length notes → headedDoc (intersperseDoc (map leafDoc notes) commaDoc) ≡ toldDoc rows notes
+  unfolding toldDoc
+  told-some z are = rw (← are, ne-eqb out 0 z)
 
-  module _ (ls : List (List ℕ)) (are : rows ≡ rowCount ls) where
-    pub footer-none : rows ≡ 0 → nil ≡ footerDoc ls
-    unfolding footerDoc
-    footer-none z = rw (← are, eq-eqb rows 0 z)
+module _ {rows : ℕ} (ls : List (List ℕ)) where
+  pub footer-none : rows ≡ 0 → rows ≡ rowCount ls → nil ≡ footerDoc ls
+  unfolding footerDoc
+  footer-none z are = rw (← are, eq-eqb rows 0 z)
 
-    pub footer-some : (rows ≡ 0 → ⊥) → concatDoc (hardline ∷ toldDoc rows (outNotes ls) ∷ hardline ∷ []) ≡ footerDoc ls
-    unfolding footerDoc
-    footer-some z = rw (← are, ne-eqb rows 0 z)
+  pub footer-some : (rows ≡ 0 → ⊥) → rows ≡ rowCount ls → concatDoc (hardline ∷ toldDoc rows (outNotes ls) ∷ hardline ∷ []) ≡ footerDoc ls
+  unfolding footerDoc
+  footer-some z are = rw (← are, ne-eqb rows 0 z)
 
 -- ---- the notes
 
@@ -89,7 +91,9 @@ no-notes s at h = rw (done s at h)
 -- ---- the block
 
 module _ {c : Counts} {t x : List ℕ} {r : Made} {t′ : List ℕ} {a b m : NodeNo} {d e f : Doc} (i : Is c t x a d) (j : Is c t x b e) (k : Is c t x m f) where
-  pub blocks : (block : Block) → block .body ≡ a → outcome r t′ x ≡ formatMade c t x block (b .0 ∷ []) (m .0 ∷ []) (true ∷ []) → Gives c t x r t′ x (blockDoc (block .amount .0) (block .way) d (e ∷ []) (f ∷ []) (true ∷ []))
+  pub blocks : (block : Block) → block .body ≡ a
+      → outcome r t′ x ≡ formatMade c t x block (b .0 ∷ []) (m .0 ∷ []) (true ∷ [])
+      → Gives c t x r t′ x (blockDoc (block .amount .0) (block .way) d (e ∷ []) (f ∷ []) (true ∷ []))
   blocks block body is =
       let body-is : docAt c t x (block .body .0) ≡ d = ap (λ (z : NodeNo). docAt c t x (z .0)) body ∙ i .unfolds in
       gives is (λ q. blockDoc (block .amount .0) (block .way) (body-is q) (j .unfolds q ∷ []) (k .unfolds q ∷ []) (true ∷ [])) (format-promise c t x block (b .0 ∷ []) (m .0 ∷ []) (true ∷ []))

@@ -8,7 +8,8 @@ use Rattle.choice.specs.Pick.{pick}
 use Rattle.table.specs.Document.{Doc, nil, hardline}
 use Rattle.build.specs.Documents.{appendDoc, lineDoc, softlineDoc, concatDoc, intersperseDoc}
 use Rattle.block.specs.Documents.{blockDoc}
-use Rattle.tolerance.specs.Standing.{rowCount, outNotes}
+use Rattle.results.specs.Standing.{rowCount, outNotes}
+use Rattle.words.specs.Widths.{below}
 use Rattle.words.specs.Documents.{leafDoc}
 use Rattle.footer.specs.Digits.{digits}
 
@@ -38,7 +39,7 @@ commaDoc = appendDoc (leafDoc (44 ∷ [])) softlineDoc
 
 -- a block: what is named behind its heading, or below it
 unfoldable pub headedDoc : Doc → Doc
-headedDoc names = blockDoc 4 0 (appendDoc lineDoc names) (leafDoc outText ∷ []) (nil ∷ []) (true ∷ [])
+headedDoc names = blockDoc below 0 (appendDoc lineDoc names) (leafDoc outText ∷ []) (nil ∷ []) (true ∷ [])
 
 -- of so many rows and the notes of those out of tolerance
 unfoldable pub toldDoc : ℕ → List (List ℕ) → Doc

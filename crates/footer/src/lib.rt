@@ -6,27 +6,27 @@ ghost use lib.ListN.{length, drop};
 ghost use mathlib.Core.List.{[], map};
 ghost use Rattle.table.specs.Document.{Doc, nil};
 ghost use Rattle.build.specs.Documents.{softlineDoc, intersperseDoc};
-ghost use Rattle.pallets.specs.Lines.{lines};
-ghost use Rattle.tolerance.specs.Standing.{outNotes};
+ghost use Rattle.buffer.specs.Parts.{lines};
+ghost use Rattle.results.specs.Standing.{outNotes};
 ghost use Rattle.footer.specs.Digits.{digitsOn};
 ghost use Rattle.words.specs.Documents.{leafDoc};
 ghost use Rattle.footer.specs.Documents.{withinDoc, commaDoc, headedDoc, toldDoc, footerDoc};
 ghost use Rattle.words.specs.Build.{Is, Shares, Gives};
 use block::Block;
+use buffer::parts::behind;
+use buffer::parts::front;
+use buffer::parts::put;
 use build::Counts;
 use build::Made;
-use pallets::bytes::front;
+use results::tolerance::Next;
+use results::tolerance::count;
+use results::tolerance::next_out;
 use table::Indent;
 use table::NodeNo;
-use tolerance::Next;
-use tolerance::count;
-use tolerance::next_out;
 use words::BELOW;
 use words::Shared;
 use words::add_word;
-use words::texts::behind;
-use words::texts::leaf;
-use words::texts::put;
+use words::leaf;
 
 // Puts a number's digits at the end; gives where the first of them stands.
 fn put_digits(out: &mut [u8], n: usize) -> usize
@@ -47,7 +47,11 @@ fn put_digits(out: &mut [u8], n: usize) -> usize
 
 // That so many pallets are all within tolerance.
 fn all_within(c: Counts, table: &mut [u32], text: &mut [u8], rows: usize) -> Made
-    ensures { λ r. ⌜ (Gives c (now (table .entry)) (now (text .entry)) r (now (table .exit)) (now (text .exit)) (withinDoc rows)) ⌝ }
+    ensures { λ r. ⌜
+        Gives c (now (table .entry)) (now (text .entry))
+        r (now (table .exit)) (now (text .exit))
+        (withinDoc rows)
+        ⌝ }
 {
     if rows == 1 {
         return leaf(c, table, text, b"The pallet is within tolerance");
@@ -63,7 +67,12 @@ fn all_within(c: Counts, table: &mut [u32], text: &mut [u8], rows: usize) -> Mad
 
 // A comma, and a place to break.
 fn comma(c: Counts, table: &mut [u32], text: &mut [u8], softline: NodeNo) -> Made
-    ensures { λ r. ⌜ (Is c (now (table .entry)) (now (text .entry)) softline softlineDoc → Gives c (now (table .entry)) (now (text .entry)) r (now (table .exit)) (now (text .exit)) commaDoc) ⌝ }
+    ensures { λ r. ⌜
+        (Is c (now (table .entry)) (now (text .entry)) softline softlineDoc
+        → Gives c (now (table .entry)) (now (text .entry))
+        r (now (table .exit)) (now (text .exit))
+        commaDoc)
+        ⌝ }
 {
     let made = leaf(c, table, text, b",");
     let Made::Node(c, n) = made else {
@@ -81,7 +90,13 @@ fn notes(
     comma: NodeNo,
     input: &[u8],
 ) -> Made
-    ensures { λ r. ⌜ (Is c (now (table .entry)) (now (text .entry)) none nil → Is c (now (table .entry)) (now (text .entry)) comma commaDoc → Gives c (now (table .entry)) (now (text .entry)) r (now (table .exit)) (now (text .exit)) (intersperseDoc (map leafDoc (outNotes (lines (now (input .entry))))) commaDoc)) ⌝ }
+    ensures { λ r. ⌜
+        (Is c (now (table .entry)) (now (text .entry)) none nil
+        → Is c (now (table .entry)) (now (text .entry)) comma commaDoc
+        → Gives c (now (table .entry)) (now (text .entry))
+        r (now (table .exit)) (now (text .exit))
+        (intersperseDoc (map leafDoc (outNotes (lines (now (input .entry))))) commaDoc))
+        ⌝ }
 {
     let mut c = c;
     let mut n = none;
@@ -106,7 +121,14 @@ fn notes(
 
 // The block of a heading and these notes, which start on a line of their own where they don't fit behind it.
 fn blocked(c: Counts, table: &mut [u32], text: &mut [u8], shared: Shared, notes: NodeNo) -> Made
-    ensures { λ r. ⌜ ((d : Doc) → Shares c (now (table .entry)) (now (text .entry)) shared → Is c (now (table .entry)) (now (text .entry)) notes d → Gives c (now (table .entry)) (now (text .entry)) r (now (table .exit)) (now (text .exit)) (headedDoc d)) ⌝ }
+    ensures { λ r. ⌜
+        ((d : Doc)
+        → Shares c (now (table .entry)) (now (text .entry)) shared
+        → Is c (now (table .entry)) (now (text .entry)) notes d
+        → Gives c (now (table .entry)) (now (text .entry))
+        r (now (table .exit)) (now (text .exit))
+        (headedDoc d))
+        ⌝ }
 {
     let none = shared.none;
     let line = shared.line;
@@ -131,7 +153,12 @@ fn blocked(c: Counts, table: &mut [u32], text: &mut [u8], shared: Shared, notes:
 
 // The block that names the notes out of tolerance.
 fn named(c: Counts, table: &mut [u32], text: &mut [u8], shared: Shared, input: &[u8]) -> Made
-    ensures { λ r. ⌜ (Shares c (now (table .entry)) (now (text .entry)) shared → Gives c (now (table .entry)) (now (text .entry)) r (now (table .exit)) (now (text .exit)) (headedDoc (intersperseDoc (map leafDoc (outNotes (lines (now (input .entry))))) commaDoc))) ⌝ }
+    ensures { λ r. ⌜
+        (Shares c (now (table .entry)) (now (text .entry)) shared
+        → Gives c (now (table .entry)) (now (text .entry))
+        r (now (table .exit)) (now (text .exit))
+        (headedDoc (intersperseDoc (map leafDoc (outNotes (lines (now (input .entry))))) commaDoc)))
+        ⌝ }
 {
     let none = shared.none;
     let softline = shared.softline;
@@ -157,7 +184,12 @@ fn said(
     out: usize,
 ) -> Made
     requires { ⌜ out ≡ length (outNotes (lines (now input))) ⌝ }
-    ensures { λ r. ⌜ (Shares c (now (table .entry)) (now (text .entry)) shared → Gives c (now (table .entry)) (now (text .entry)) r (now (table .exit)) (now (text .exit)) (toldDoc rows (outNotes (lines (now (input .entry)))))) ⌝ }
+    ensures { λ r. ⌜
+        (Shares c (now (table .entry)) (now (text .entry)) shared
+        → Gives c (now (table .entry)) (now (text .entry))
+        r (now (table .exit)) (now (text .exit))
+        (toldDoc rows (outNotes (lines (now (input .entry))))))
+        ⌝ }
 {
     if out == 0 {
         return all_within(c, table, text, rows);
@@ -167,7 +199,12 @@ fn said(
 
 // An empty line, the footer of an input and a Hardline; of an input without rows the shared Nil.
 pub fn footer(c: Counts, table: &mut [u32], text: &mut [u8], shared: Shared, input: &[u8]) -> Made
-    ensures { λ r. ⌜ (Shares c (now (table .entry)) (now (text .entry)) shared → Gives c (now (table .entry)) (now (text .entry)) r (now (table .exit)) (now (text .exit)) (footerDoc (lines (now (input .entry))))) ⌝ }
+    ensures { λ r. ⌜
+        (Shares c (now (table .entry)) (now (text .entry)) shared
+        → Gives c (now (table .entry)) (now (text .entry))
+        r (now (table .exit)) (now (text .exit))
+        (footerDoc (lines (now (input .entry)))))
+        ⌝ }
 {
     let none = shared.none;
     let hardline = shared.hardline;

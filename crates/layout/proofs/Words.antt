@@ -16,21 +16,21 @@ unfolding wordsOf
 words-append [] fs = refl
 words-append (e ∷ es) fs = ap (λ (l : List ℕ). e .offset ∷ e .mark ∷ e .label ∷ l) (words-append es fs)
 
--- three words more
-take-three : (ev : List ℕ) (k : ℕ) → k + 3 ≤ length ev → take (k + 3) ev ≡ take k ev ++ (getD ev k 0 ∷ getD ev (k + 1) 0 ∷ getD ev (k + 2) 0 ∷ [])
-take-three ev k h =
-    let a : take (suc k) ev ≡ take k ev ++ (getD ev k 0 ∷ []) = take-suc ev k 0 (omega arith) in
-    let b : take (suc (suc k)) ev ≡ take (suc k) ev ++ (getD ev (suc k) 0 ∷ []) = take-suc ev (suc k) 0 (omega arith) in
-    let c : take (suc (suc (suc k))) ev ≡ take (suc (suc k)) ev ++ (getD ev (suc (suc k)) 0 ∷ []) = take-suc ev (suc (suc k)) 0 (omega arith) in
-    let e : k + 3 ≡ suc (suc (suc k)) = omega arith in
-    rw (e, c, b, a, add-one, add-two) (simp append-assoc)
+-- the words of one event more: a line for each field
+take-event : (ev : List ℕ) (k : ℕ) → k + eventWords ≤ length ev → take (k + eventWords) ev ≡ take k ev ++ (getD ev k 0 ∷ getD ev (k + 1) 0 ∷ getD ev (k + 2) 0 ∷ [])
+take-event ev k h =
+    let offset : take (suc k) ev ≡ take k ev ++ (getD ev k 0 ∷ []) = take-suc ev k 0 (omega arith) in
+    let mark : take (suc (suc k)) ev ≡ take (suc k) ev ++ (getD ev (suc k) 0 ∷ []) = take-suc ev (suc k) 0 (omega arith) in
+    let label : take (suc (suc (suc k))) ev ≡ take (suc (suc k)) ev ++ (getD ev (suc (suc k)) 0 ∷ []) = take-suc ev (suc (suc k)) 0 (omega arith) in
+    let all : k + eventWords ≡ suc (suc (suc k)) = omega arith in
+    rw (all, label, mark, offset, add-one, add-two) (simp append-assoc)
 
 pub words-front : (n : ℕ) (ev : List ℕ) → n * eventWords ≤ length ev → wordsOf (eventsOf n ev) ≡ take (n * eventWords) ev
 unfolding wordsOf eventsOf
 words-front zero ev h = refl
 words-front (suc n) ev h =
-    let e : suc n * eventWords ≡ n * eventWords + 3 = omega arith in
-    words-append (eventsOf n ev) (eventAt ev n ∷ []) ∙ rw (words-front n ev (omega arith), e) (sym (take-three ev (n * eventWords) (omega arith)))
+    let more : suc n * eventWords ≡ n * eventWords + eventWords = omega arith in
+    words-append (eventsOf n ev) (eventAt ev n ∷ []) ∙ rw (words-front n ev (omega arith), more) (sym (take-event ev (n * eventWords) (omega arith)))
 
 -- what was noted is known by its words
 pub words-injective : (es fs : List Event) → wordsOf es ≡ wordsOf fs → es ≡ fs
@@ -39,8 +39,8 @@ words-injective [] [] h = refl
 words-injective [] (f ∷ fs) h = absurd (omega (arith, ap length h))
 words-injective (e ∷ es) [] h = absurd (omega (arith, ap length h))
 words-injective (e ∷ es) (f ∷ fs) h =
-    let a : e .offset ≡ f .offset = ap (λ (l : List ℕ). getD l 0 0) h in
-    let b : e .mark ≡ f .mark = ap (λ (l : List ℕ). getD l 1 0) h in
-    let c : e .label ≡ f .label = ap (λ (l : List ℕ). getD l 2 0) h in
-    let r : es ≡ fs = words-injective es fs (ap (λ (l : List ℕ). drop 3 l) h) in
-    λ i. record { offset = a i; mark = b i; label = c i } ∷ r i
+    let offset : e .offset ≡ f .offset = ap (λ (l : List ℕ). getD l 0 0) h in
+    let mark : e .mark ≡ f .mark = ap (λ (l : List ℕ). getD l 1 0) h in
+    let label : e .label ≡ f .label = ap (λ (l : List ℕ). getD l 2 0) h in
+    let others : es ≡ fs = words-injective es fs (ap (λ (l : List ℕ). drop eventWords l) h) in
+    λ i. record { offset = offset i; mark = mark i; label = label i } ∷ others i

@@ -1,3 +1,3 @@
--- What the public calls promise, and what demands 1 and 2 ask.
+-- What the public calls promise, and what demands 1 and 3 ask of any form of them.
 pub mod Called
 pub mod Demands

@@ -2,19 +2,21 @@
 //
 // No public function has a `requires`: any table, text, width, limit and buffers get a numbered answer, and the call ends. The table and the
 // text are only read. A refusal leaves every byte of the output and every event zero; what is past the used part is zero after answer 0 too;
-// the work area is zero after every call. Events are three words each: offset, mark (1 opens, 0 closes), label.
+// the work area is zero after every call. An event is `rules::EVENT_WORDS` words: offset, mark (1 opens, 0 closes), label.
 use rules::EVENT_WORDS;
 use table::NodeNo;
 ghost use mathlib.Core.Path.{_≡_};
 ghost use mathlib.Core.List.{[]};
-ghost use lib.ListN.{length};
 ghost use Rattle.rules.specs.Call.{buffersRight};
-ghost use Rattle.layout.specs.Called.{given, Decided, Called, defaultWidth, defaultSteps};
+ghost use Rattle.layout.specs.Called.{given, lent, Decided, calledWith, defaultWidth, labelWidth, defaultSteps};
 
-// The strip's width in columns, for the routines that take none.
+// The whole sheet's width in columns.
 pub const DEFAULT_WIDTH: u32 = 42;
 
-// The step limit, for the routines that take none.
+// The row label's width in columns.
+pub const LABEL_WIDTH: u32 = 42;
+
+// The step limit of both.
 pub const DEFAULT_STEPS: u32 = 1000000;
 
 // What a call answers: the answer's number and its place, the steps, and how many bytes and events are used.
@@ -23,7 +25,7 @@ pub struct Report {
     pub place: NodeNo,
     pub steps: u32,
     pub used: u32,
-    pub marks: u32,
+    pub events: u32,
 }
 
 // Whether the buffers, the width and the limit are within their bounds.
@@ -39,14 +41,14 @@ pub fn buffers_right(out: usize, events: usize, work: usize, width: u32, limit: 
 
 // A refusal before any run: nothing is used and no step is taken.
 fn refused(answer: u32, place: NodeNo) -> Report
-    ensures { λ r. ⌜ r ≡ record { answer = answer; place = place; steps = 0; used = 0; marks = 0 } ⌝ }
+    ensures { λ r. ⌜ r ≡ record { answer = answer; place = place; steps = 0; used = 0; events = 0 } ⌝ }
 {
     Report {
         answer,
         place,
         steps: 0,
         used: 0,
-        marks: 0,
+        events: 0,
     }
 }
 
@@ -60,7 +62,9 @@ fn decide(
     events: &mut [u32],
     work: &mut [u32],
 ) -> Report
-    ensures { λ r. ⌜ Decided (given (now (table .entry)) (now (text .entry)) width limit (length (now (out .entry))) (length (now (events .entry))) (length (now (work .entry)))) r (now (out .exit)) (now (events .exit)) ⌝ }
+    ensures { λ r. ⌜ Decided
+        (lent (now (table .entry)) (now (text .entry)) width limit (now (out .entry)) (now (events .entry)) (now (work .entry)))
+        r (now (out .exit)) (now (events .exit)) ⌝ }
 {
     if !buffers_right(out.len(), events.len(), work.len(), width, limit) {
         return refused(1, NodeNo(0));
@@ -78,7 +82,7 @@ fn decide(
         place,
         steps: limit - end.left,
         used: end.used,
-        marks: end.events,
+        events: end.events,
     }
 }
 
@@ -92,11 +96,13 @@ pub fn layout(
     events: &mut [u32],
     work: &mut [u32],
 ) -> Report
-    ensures { λ r. ⌜ Called (given (now (table .entry)) (now (text .entry)) width limit (length (now (out .entry))) (length (now (events .entry))) (length (now (work .entry)))) (length (now (events .entry))) r (now (out .exit)) (now (events .exit)) (now (work .exit)) ⌝ }
+    ensures { λ r. ⌜ calledWith
+        (now (table .entry)) (now (text .entry)) width limit (now (out .entry)) (now (events .entry)) (now (work .entry))
+        r (now (out .exit)) (now (events .exit)) (now (work .exit)) ⌝ }
 {
     let report = decide(table, text, width, limit, out, events, work);
     let used = report.used as usize;
-    let words = (report.marks as usize) * EVENT_WORDS;
+    let words = (report.events as usize) * EVENT_WORDS;
     buffer::zero_bytes_from(out, used);
     buffer::zero_words_from(events, words);
     buffer::clear_dirty_words(work);
@@ -111,12 +117,14 @@ pub fn sheet(
     events: &mut [u32],
     work: &mut [u32],
 ) -> Report
-    ensures { λ r. ⌜ Called (given (now (table .entry)) (now (text .entry)) defaultWidth defaultSteps (length (now (out .entry))) (length (now (events .entry))) (length (now (work .entry)))) (length (now (events .entry))) r (now (out .exit)) (now (events .exit)) (now (work .exit)) ⌝ }
+    ensures { λ r. ⌜ calledWith
+        (now (table .entry)) (now (text .entry)) defaultWidth defaultSteps (now (out .entry)) (now (events .entry)) (now (work .entry))
+        r (now (out .exit)) (now (events .exit)) (now (work .exit)) ⌝ }
 {
     layout(table, text, DEFAULT_WIDTH, DEFAULT_STEPS, out, events, work)
 }
 
-// The row label, at the default width and step limit.
+// The row label, at its own width and the default step limit.
 pub fn label(
     table: &[u32],
     text: &[u8],
@@ -124,7 +132,9 @@ pub fn label(
     events: &mut [u32],
     work: &mut [u32],
 ) -> Report
-    ensures { λ r. ⌜ Called (given (now (table .entry)) (now (text .entry)) defaultWidth defaultSteps (length (now (out .entry))) (length (now (events .entry))) (length (now (work .entry)))) (length (now (events .entry))) r (now (out .exit)) (now (events .exit)) (now (work .exit)) ⌝ }
+    ensures { λ r. ⌜ calledWith
+        (now (table .entry)) (now (text .entry)) labelWidth defaultSteps (now (out .entry)) (now (events .entry)) (now (work .entry))
+        r (now (out .exit)) (now (events .exit)) (now (work .exit)) ⌝ }
 {
-    layout(table, text, DEFAULT_WIDTH, DEFAULT_STEPS, out, events, work)
+    layout(table, text, LABEL_WIDTH, DEFAULT_STEPS, out, events, work)
 }

@@ -1,4 +1,6 @@
--- Laws that the exports' proofs cite.
+-- Laws that the exports' proofs cite, and the demands of the exported layouts.
 pub mod Answering
 pub mod Defaults
-pub mod Unique
+pub mod Demands
+mod Making
+mod Flags

@@ -1,2 +1,3 @@
--- What the exported layouts promise; of the other exports it is numbered's specs that say it.
+-- What the exports promise: the layouts; the constructors and the block layouts by number.
 pub mod Exported
+pub mod Building

@@ -1,19 +1,18 @@
 // The static library: what C and Rust programs link. c/pursegable.h says the same in C.
 //
 // No export has a `requires`. A slice is a pointer and a length in elements; null or overlapping buffers are the caller's business.
-// In order: the report; layout, sheet and label over event records; the same over the events' words.
+// Here, in order: the report; layout, sheet and label over event records; the layout over the events' words.
+// building.rt: the constructors and the block layouts; constructors.rt: which constructor a number makes; counts.rt: the lent counts.
 mod building;
+mod constructors;
+mod counts;
 
 use events::Event;
 use layout::Report;
 ghost use mathlib.Core.Path.{_≡_};
-ghost use mathlib.Core.List.{[], _∷_};
 ghost use lib.ListN.{length};
-ghost use lib.Dec.{leb};
-ghost use Rattle.choice.specs.Pick.{pick};
-ghost use Rattle.layout.specs.Called.{given, defaultWidth, defaultSteps};
-ghost use Rattle.events.specs.Called.{asked};
-ghost use Rattle.pursegable.specs.Exported.{told, Records, Words};
+ghost use Rattle.layout.specs.Called.{defaultWidth, labelWidth, defaultSteps};
+ghost use Rattle.pursegable.specs.Exported.{fiveOf, told, limitFor, exportedRecords, exportedWords};
 
 // The words of a report: answer, place, steps, used bytes, used events.
 const REPORT_WORDS: usize = 5;
@@ -23,7 +22,7 @@ const NO_LIMIT: u32 = 100000001;
 
 // The limit to lay out with: without room for the report it is one that answers 1 and clears every buffer.
 fn limit_for(limit: u32, words: usize) -> u32
-    ensures { λ r. ⌜ r ≡ pick (leb 5 words) limit 100000001 ⌝ }
+    ensures { λ r. ⌜ r ≡ limitFor limit words ⌝ }
 {
     if words < REPORT_WORDS {
         return NO_LIMIT;
@@ -33,7 +32,7 @@ fn limit_for(limit: u32, words: usize) -> u32
 
 // Fills the report, where there is room for it; the rest of its words are zero.
 fn tell(r: Report, report: &mut [u32])
-    ensures { λ _. ⌜ now (report .exit) ≡ told (r .answer ∷ r .place .0 ∷ r .steps ∷ r .used ∷ r .marks ∷ []) (length (now (report .entry))) ⌝ }
+    ensures { λ _. ⌜ now (report .exit) ≡ told (fiveOf r) (length (now (report .entry))) ⌝ }
 {
     buffer::clear_words(report);
     if report.len() < REPORT_WORDS {
@@ -44,7 +43,7 @@ fn tell(r: Report, report: &mut [u32])
     report[1] = place.0;
     report[2] = r.steps;
     report[3] = r.used;
-    report[4] = r.marks;
+    report[4] = r.events;
 }
 
 // Lays a table out at a width, with a step limit. The answer is returned, and is the report's first word.
@@ -59,7 +58,10 @@ pub extern "C" fn pursegable_layout(
     work: &mut [u32],
     report: &mut [u32],
 ) -> u32
-    ensures { λ r. ⌜ Records (asked (now (table .entry)) (now (text .entry)) width limit (length (now (out .entry))) (length (now (events .entry))) (length (now (work .entry)))) r (now (out .exit)) (now (events .exit)) (now (work .exit)) (now (report .exit)) (length (now (report .entry))) ⌝ }
+    ensures { λ r. ⌜ exportedRecords
+        (now (table .entry)) (now (text .entry)) width limit
+        (now (out .entry)) (now (events .entry)) (now (work .entry)) (now (report .entry))
+        r (now (out .exit)) (now (events .exit)) (now (work .exit)) (now (report .exit)) ⌝ }
 {
     let words = report.len();
     let limit = limit_for(limit, words);
@@ -78,7 +80,10 @@ pub extern "C" fn pursegable_sheet(
     work: &mut [u32],
     report: &mut [u32],
 ) -> u32
-    ensures { λ r. ⌜ Records (asked (now (table .entry)) (now (text .entry)) defaultWidth defaultSteps (length (now (out .entry))) (length (now (events .entry))) (length (now (work .entry)))) r (now (out .exit)) (now (events .exit)) (now (work .exit)) (now (report .exit)) (length (now (report .entry))) ⌝ }
+    ensures { λ r. ⌜ exportedRecords
+        (now (table .entry)) (now (text .entry)) defaultWidth defaultSteps
+        (now (out .entry)) (now (events .entry)) (now (work .entry)) (now (report .entry))
+        r (now (out .exit)) (now (events .exit)) (now (work .exit)) (now (report .exit)) ⌝ }
 {
     pursegable_layout(
         table,
@@ -92,7 +97,7 @@ pub extern "C" fn pursegable_sheet(
     )
 }
 
-// The row label, at the default width and step limit.
+// The row label, at its own width and the default step limit.
 #[no_mangle]
 pub extern "C" fn pursegable_label(
     table: &[u32],
@@ -102,12 +107,15 @@ pub extern "C" fn pursegable_label(
     work: &mut [u32],
     report: &mut [u32],
 ) -> u32
-    ensures { λ r. ⌜ Records (asked (now (table .entry)) (now (text .entry)) defaultWidth defaultSteps (length (now (out .entry))) (length (now (events .entry))) (length (now (work .entry)))) r (now (out .exit)) (now (events .exit)) (now (work .exit)) (now (report .exit)) (length (now (report .entry))) ⌝ }
+    ensures { λ r. ⌜ exportedRecords
+        (now (table .entry)) (now (text .entry)) labelWidth defaultSteps
+        (now (out .entry)) (now (events .entry)) (now (work .entry)) (now (report .entry))
+        r (now (out .exit)) (now (events .exit)) (now (work .exit)) (now (report .exit)) ⌝ }
 {
     pursegable_layout(
         table,
         text,
-        layout::DEFAULT_WIDTH,
+        layout::LABEL_WIDTH,
         layout::DEFAULT_STEPS,
         out,
         events,
@@ -116,7 +124,7 @@ pub extern "C" fn pursegable_label(
     )
 }
 
-// As pursegable_layout, with the events as words, three to a record: nothing is copied.
+// As pursegable_layout, with the events as words, `rules::EVENT_WORDS` to a record: nothing is copied.
 #[no_mangle]
 pub extern "C" fn pursegable_layout_words(
     table: &[u32],
@@ -128,7 +136,10 @@ pub extern "C" fn pursegable_layout_words(
     work: &mut [u32],
     report: &mut [u32],
 ) -> u32
-    ensures { λ r. ⌜ Words (length (now (events .entry))) (given (now (table .entry)) (now (text .entry)) width limit (length (now (out .entry))) (length (now (events .entry))) (length (now (work .entry)))) r (now (out .exit)) (now (events .exit)) (now (work .exit)) (now (report .exit)) (length (now (report .entry))) ⌝ }
+    ensures { λ r. ⌜ exportedWords
+        (now (table .entry)) (now (text .entry)) width limit
+        (now (out .entry)) (now (events .entry)) (now (work .entry)) (now (report .entry))
+        r (now (out .exit)) (now (events .exit)) (now (work .exit)) (now (report .exit)) ⌝ }
 {
     let limit = limit_for(limit, report.len());
     let r = layout::layout(table, text, width, limit, out, events, work);

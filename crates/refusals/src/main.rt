@@ -8,7 +8,7 @@ use libc::STDOUT_FILENO;
 fn run_all(input: &[u8]) {
     let mut at = 0;
     while at < input.len() {
-        let end = pallets::bytes::part_end(input, at, b'%');
+        let end = buffer::parts::part_end(input, at, b'%');
         if input.len() <= end {
             return;
         }

@@ -1,168 +1,78 @@
-// Replays the runs on standard input: each table is laid out, and how that ended is written. `rt` holds what is written to the
-// file stdout, which has what document 01's interpreter says of the same runs; compare/README.md tells how both files are made.
+// Replays what stands on standard input: cases first, then a line that starts with `%`, then runs. `rt` holds what is written to the
+// file stdout, which has what document 01 says; compare/README.md tells how both files are made. A line that starts with `#` or `%` is
+// neither, and so is an empty one. A line after the cases counts them.
 //
-// A run is a line: the table's words in decimal, the text bytes in hexadecimal, width, limit, room and slots, and a name, with
-// `|` between. All buffers are soiled before the call. Written are answer, place and steps, the bytes used, the words of the
-// events used, how much of output, events and work is not zero and must be, and the name.
-ghost use Prim.Native.Nat.{_≤_};
-use layout::Report;
+// lines.rt: the lists of numbers in a line; cases.rt: one case, validated; runs.rt: one run, laid out.
+use buffer::parts::behind;
+use buffer::parts::front;
+use buffer::parts::line_end;
+use buffer::parts::part_end;
 use libc::STDOUT_FILENO;
-use rules::EVENT_WORDS;
 
-// Room for some more event records than a call may be lent, in words.
-const SLOTS: usize = 4100;
+mod cases;
+mod lines;
+mod runs;
 
-const EVENTS: usize = SLOTS * EVENT_WORDS;
-
-fn least(a: usize, b: usize) -> usize
-    ensures { λ r. ⌜ (r ≤ a) × (r ≤ b) ⌝ }
-{
-    if a < b { a } else { b }
+// How many cases were replayed, and how many went wrong.
+struct Tally {
+    cases: u32,
+    wrong: u32,
 }
 
-// Writes a number and a blank.
-fn write_number(n: u32) {
-    io::print_decimal(STDOUT_FILENO, n as u64);
-    io::write_all(STDOUT_FILENO, b" ");
-}
-
-fn as_word(b: u8) -> u32 {
-    b as u32
-}
-
-// The bytes as words, as far as there is room.
-fn widen(bytes: &[u8], wide: &mut [u32]) {
-    let mut i = 0;
-    while i < wide.len() {
-        if bytes.len() <= i {
-            return;
-        }
-        wide[i] = as_word(bytes[i]);
-        i += 1;
+// Whether a line says something.
+fn says(line: &[u8]) -> bool {
+    if line.len() == 0 {
+        return false;
     }
+    (line[0] != b'#') & (line[0] != b'%')
 }
 
-// Writes the words, and a bar.
-fn write_words(words: &[u32]) {
-    let mut i = 0;
-    while i < words.len() {
-        write_number(words[i]);
-        i += 1;
-    }
-    io::write_all(STDOUT_FILENO, b"| ");
-}
-
-// How many words are not zero, from `from` on.
-fn soiled(words: &[u32], from: usize) -> u32 {
-    let mut count: u32 = 0;
-    let mut i = from;
-    while i < words.len() {
-        if words[i] != 0 {
-            count = std::num::wrapping_add_u32(count, 1);
-        }
-        i += 1;
-    }
-    count
-}
-
-// Writes how a run ended and what its buffers hold, the output as words.
-fn report(r: Report, out: &[u32], events: &[u32], work: &[u32], name: &[u8]) {
-    let used = least(r.used as usize, out.len());
-    let marked = least(r.marks as usize * EVENT_WORDS, events.len());
-    write_number(r.answer);
-    write_number(r.place.0);
-    write_number(r.steps);
-    io::write_all(STDOUT_FILENO, b"| ");
-    write_words(&out[..used]);
-    write_words(&events[..marked]);
-    write_number(soiled(out, used));
-    write_number(soiled(events, marked));
-    write_number(soiled(work, 0));
-    io::write_all(STDOUT_FILENO, b"|");
-    io::write_all(STDOUT_FILENO, name);
-    io::write_all(STDOUT_FILENO, b"\n");
-}
-
-// Lays a table out in these buffers.
-fn run(
-    table: &[u32],
-    text: &[u8],
-    width: u32,
-    limit: u32,
-    out: &mut [u8],
-    events: &mut [u32],
-    work: &mut [u32],
-    name: &[u8],
-) {
-    let r = layout::layout(table, text, width, limit, out, events, work);
-    let mut wide = [0u32; 65600];
-    widen(out, &mut wide);
-    let room = least(out.len(), 65600);
-    report(r, &wide[..room], events, work, name);
-}
-
-// Lays a table out in soiled buffers of these sizes.
-fn lay_out(table: &[u32], text: &[u8], width: u32, limit: u32, room: u32, slots: u32, name: &[u8]) {
-    let mut out = [90u8; 65600];
-    let mut events = [1515870810u32; EVENTS];
-    let mut work = [1515870810u32; 16384];
-    let room = least(room as usize, 65600);
-    let words = least(slots as usize, SLOTS) * EVENT_WORDS;
-    run(
-        table,
-        text,
-        width,
-        limit,
-        &mut out[..room],
-        &mut events[..words],
-        &mut work,
-        name,
-    );
-}
-
-// Replays one line.
-fn replay(line: &[u8]) {
-    let mut words = [0u32; 4200];
-    let table = lines::numbers(line, 0, 10, &mut words);
-    let mut wide = [0u32; 65600];
-    let bytes = lines::numbers(line, lines::past(line, table.end), 16, &mut wide);
-    let mut text = [0u8; 65600];
-    let mut sizes = [0u32; 4];
-    let asked = lines::numbers(line, lines::past(line, bytes.end), 10, &mut sizes);
-    let t = table.count;
-    let n = bytes.count;
-    lines::narrow(&wide[..n], &mut text);
-    let name = lines::past(line, asked.end);
-    lay_out(
-        &words[..t],
-        &text[..n],
-        sizes[0],
-        sizes[1],
-        sizes[2],
-        sizes[3],
-        &line[name..],
-    );
-}
-
-// Replays every line but the empty ones and those that start with `#`.
-fn replay_all(input: &[u8]) {
+// Replays every case.
+fn replay_cases(input: &[u8]) -> Tally {
+    let mut cases: u32 = 0;
+    let mut wrong: u32 = 0;
     let mut at = 0;
     while at < input.len() {
-        let end = lines::line_end(input, at);
-        if at < end {
-            if input[at] != b'#' {
-                replay(&input[at..end]);
-            }
+        let end = line_end(input, at);
+        let line = &input[at..end];
+        at = end + 1;
+        if !says(line) {
+            continue;
         }
-        at = end;
-        if at < input.len() {
-            at += 1;
+        cases = std::num::wrapping_add_u32(cases, 1);
+        if !cases::replay(line) {
+            wrong = std::num::wrapping_add_u32(wrong, 1);
         }
     }
+    Tally { cases, wrong }
+}
+
+// Replays every run.
+fn replay_runs(input: &[u8]) {
+    let mut at = 0;
+    while at < input.len() {
+        let end = line_end(input, at);
+        let line = &input[at..end];
+        at = end + 1;
+        if says(line) {
+            runs::replay(line);
+        }
+    }
+}
+
+// Replays both lists.
+fn replay(input: &[u8]) {
+    let bar = part_end(input, 0, b'%');
+    let tally = replay_cases(front(input, bar));
+    io::print_decimal(STDOUT_FILENO, tally.cases as u64);
+    io::write_all(STDOUT_FILENO, b" cases, ");
+    io::print_decimal(STDOUT_FILENO, tally.wrong as u64);
+    io::write_all(STDOUT_FILENO, b" wrong\n");
+    replay_runs(behind(input, bar));
 }
 
 fn main() {
     let mut space = [0u8; 262144];
     let n = io::read_full(0, &mut space);
-    replay_all(&space[..n]);
+    replay(&space[..n]);
 }

@@ -1,3 +1,4 @@
--- The laws of a row, with no code in sight.
+-- The laws of a row and of its remark, with no code in sight.
 mod Columns
+mod Remarks
 mod Uncut

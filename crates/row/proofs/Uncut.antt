@@ -1,33 +1,35 @@
 -- Nothing is cut: 64 bytes have room for the fields of a line that is a row.
 --     few-bytes                a character has at most four bytes
 --     Sound, row-sound         what is known of a line that is a row
---     fields-fit               the room that they take
+--     fields-fit, row-bytes    the room that they take
 -- Assumes nothing.
 use Prim.Native.Nat.{ℕ, zero, suc, _+_, _-_, _*_, _≤_, _<_}
 use native.Mathlib.Omega.{arith}
-use mathlib.Core.Path.{_≡_, refl, ap, subst}
+use mathlib.Core.Path.{_≡_, refl, ap, _∙_, subst}
 use mathlib.Core.Bool.{Bool, true, false, _&&_, _||_}
 use mathlib.Core.List.{List, [], _∷_}
-use lib.ListN.{length, getD, take, drop, length-append, length-replicate}
+use lib.ListN.{length, getD, take, drop, replicate, length-append, length-replicate}
 use lib.Seq.{length-take-le, take-all}
 use lib.Dec.{eqb, leb, ltb}
 use borrow.Author.Tests.{le-leb, lt-leb, leb-true, ltb-false}
 use Rattle.choice.specs.Pick.{pick}
 use Rattle.buffer.specs.Utf8.{Range, to, within, tail, Start, start, follow, never, owed, wellFormed}
 use Rattle.choice.proofs.Tests.{and-true}
-use Rattle.pallets.specs.Lines.{indexOf, goesOn, characters, blank, controls}
-use Rattle.pallets.specs.Numbers.{numberOf, tenthsAdd, tenthsOf}
-use Rattle.pallets.specs.Numbers as numbers
-use Rattle.pallets.specs.Pallets.{separator, cutsAt, fieldsOf, between, measured, palletOf, palletAt, said, parsed}
-use Rattle.pallets.specs.declared.Pallet.{Pallet}
-use Rattle.pallets.specs.declared.Fault.{Fault}
-use Rattle.pallets.specs.declared.Fault.the-variants.{TooLong, NotUtf8, Control, NoForce, NoPluck, NoRemark, Note, Force, Pluck}
-use Rattle.pallets.specs.declared.Cuts.the-variants.{At, Missing}
-use Rattle.pallets.specs.declared.Line.{Line}
-use Rattle.pallets.specs.declared.Line.the-variants.{Empty, Heading, Row, Bad}
-use Rattle.pallets.specs.declared.numbers.Amount.{Amount}
-use Rattle.pallets.specs.declared.numbers.Amount.the-variants.{Is, NoNumber}
-use Rattle.pallets.proofs.Saying.{index-within}
+use Rattle.buffer.specs.Parts.{indexOf, goesOn, characters, blank, controls, between}
+use Rattle.results.specs.Numbers.{numberOf, tenthsAdd, tenthsOf}
+use Rattle.results.specs.Numbers as numbers
+use Rattle.results.specs.Pallets.{separator, cutsAt, fieldsOf, measured, palletOf, palletAt, said, parsed}
+use Rattle.results.specs.declared.Pallet.{Pallet}
+use Rattle.results.specs.declared.Fault.{Fault}
+use Rattle.results.specs.declared.Fault.the-variants.{TooLong, NotUtf8, Control, NoForce, NoPluck, NoRemark, Note, Force, Pluck}
+use Rattle.results.specs.declared.Cuts.the-variants.{At, Missing}
+use Rattle.results.specs.declared.Line.{Line}
+use Rattle.results.specs.declared.Line.the-variants.{Empty, Heading, Row, Bad}
+use Rattle.results.specs.declared.numbers.Amount.{Amount}
+use Rattle.results.specs.declared.numbers.Amount.the-variants.{Is, NoNumber}
+use Rattle.buffer.specs.Placing.{Adds}
+use Rattle.buffer.proofs.Reading.{index-within}
+use Rattle.buffer.proofs.Placing.{written-at}
 use Rattle.row.specs.Fields.{field, right, fields}
 
 -- ---- characters
@@ -73,7 +75,10 @@ few-bytes (suc k) [] [] e = omega arith
 few-bytes (suc k) (r ∷ rs) [] e = omega arith
 few-bytes (suc k) [] (b ∷ bs) e = go (start b) refl (λ rs. few-bytes k rs bs) e
   where
-    go : (s : Start) → start b ≡ s → ((rs : List Range) → owed rs bs ≡ true → length (take k bs) ≤ length rs + 4 * characters (take k bs)) → elim s as (λ x. Bool) [ follow rs ↦ owed rs bs | never ↦ false ] ≡ true → suc (length (take k bs)) ≤ 0 + 4 * pick (goesOn b) (characters (take k bs)) (suc (characters (take k bs)))
+    go : (s : Start) → start b ≡ s
+        → ((rs : List Range) → owed rs bs ≡ true → length (take k bs) ≤ length rs + 4 * characters (take k bs))
+        → elim s as (λ x. Bool) [ follow rs ↦ owed rs bs | never ↦ false ] ≡ true
+        → suc (length (take k bs)) ≤ 0 + 4 * pick (goesOn b) (characters (take k bs)) (suc (characters (take k bs)))
     go (follow rs) w rest e = let f = starts b rs w in rw (f .1) (omega (arith, rest rs e, f .0))
     go never w rest e = let z : _≡_ {A = ℕ} 0 1 = cc in absurd (omega arith)
 few-bytes (suc k) (r ∷ rs) (b ∷ bs) e = go (goesOn b) (few-bytes k rs bs (and-true (within r b) (owed rs bs) e .1))
@@ -197,3 +202,7 @@ module _ {s : List ℕ} {p : Pallet} (sound : Sound s p) where
       let force = right-size (drop (p .force) s) 4 (32 ∷ 103 ∷ []) (sound .force) in
       let pluck = right-size (drop (p .pluck) s) 6 (32 ∷ 109 ∷ 109 ∷ []) (omega (arith, sound .pluck)) in
       take-all 64 (fields s p) (simp (length-append, length-replicate) (omega (arith, sound .note)))
+
+-- what is put of a row into 64 blanks is all of it
+pub row-bytes : (s : List ℕ) (p : Pallet) → parsed s ≡ Row p → {out : List ℕ} {r : ℕ} → Adds (replicate 64 32) 0 (fields s p) out r → {part : List ℕ} → part ≡ take r out → part ≡ fields s p
+row-bytes s p row {out} {r} adds is = is ∙ written-at 64 0 (fields s p) out r (omega arith) adds ∙ fields-fit (row-sound s p row)

@@ -4,10 +4,10 @@ use mathlib.Core.List.{List}
 use lib.Dec.{eqb}
 use Rattle.choice.specs.Pick.{pick}
 use Rattle.table.specs.Document.{Doc, annotated}
-use Rattle.tolerance.specs.Tolerance.{labelOf}
-use Rattle.pallets.specs.declared.Pallet.{Pallet}
+use Rattle.results.specs.Tolerance.{labelOf}
+use Rattle.results.specs.declared.Pallet.{Pallet}
 use Rattle.words.specs.Documents.{leafDoc}
-use Rattle.remark.specs.Documents.{remark, endedDoc}
+use Rattle.row.specs.Remark.{remark, endedDoc}
 use Rattle.row.specs.Fields.{fields}
 
 -- the mark of a row out of tolerance

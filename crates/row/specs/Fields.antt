@@ -2,8 +2,8 @@
 use Prim.Native.Nat.{ℕ, _-_}
 use mathlib.Core.List.{List, [], _∷_, _++_}
 use lib.ListN.{take, drop, replicate}
-use Rattle.pallets.specs.Lines.{indexOf, characters}
-use Rattle.pallets.specs.declared.Pallet.{Pallet}
+use Rattle.buffer.specs.Parts.{indexOf, characters}
+use Rattle.results.specs.declared.Pallet.{Pallet}
 
 -- what stands before the first `;`
 abbrev pub field : List ℕ → List ℕ

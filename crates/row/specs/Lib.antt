@@ -1,3 +1,4 @@
--- What a row is: its bytes and its document.
+-- What a row is: its bytes, its remark, its document.
 pub mod Fields
+pub mod Remark
 pub mod Documents

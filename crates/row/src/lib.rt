@@ -1,28 +1,30 @@
-// A row: note, force and pluck point in columns, the remark beside them or below, and the mark. A row out of tolerance is Annotated with
-// the label of what is out.
+// A row: note, force and pluck point in columns, the remark beside them or below (remark.rt), and the mark. A row out of tolerance is
+// Annotated with the label of what is out.
 ghost use mathlib.Core.Path.{_≡_};
 ghost use Prim.Native.Nat.{_≤_};
 ghost use lib.ListN.{length};
-ghost use Rattle.pallets.specs.Pallets.{parsed};
-ghost use Rattle.pallets.specs.declared.Line.the-variants.{Row};
-ghost use Rattle.words.specs.Bytes.{Adds};
+ghost use Rattle.results.specs.Pallets.{parsed};
+ghost use Rattle.results.specs.declared.Line.the-variants.{Row};
+ghost use Rattle.buffer.specs.Placing.{Adds};
 ghost use Rattle.words.specs.Build.{Shares, Gives};
 ghost use Rattle.row.specs.Fields.{right, fields};
 ghost use Rattle.row.specs.Documents.{rowDoc};
+use buffer::parts::behind;
+use buffer::parts::columns;
+use buffer::parts::front;
+use buffer::parts::further;
+use buffer::parts::missing;
+use buffer::parts::part_end;
+use buffer::parts::put;
 use build::Counts;
 use build::Made;
-use pallets::Pallet;
-use pallets::bytes::columns;
-use pallets::bytes::front;
-use pallets::bytes::part_end;
 use remark::ended;
-use tolerance::label;
+use results::Pallet;
+use results::tolerance::label;
 use words::Shared;
-use words::texts::behind;
-use words::texts::further;
-use words::texts::leaf;
-use words::texts::missing;
-use words::texts::put;
+use words::leaf;
+
+mod remark;
 
 // The columns of a row's fields: the note from the left, force and pluck point to the right.
 const NOTE: usize = 6;
@@ -34,7 +36,10 @@ const PLUCK: usize = 6;
 // Puts the field that starts there so that it ends in a column, and what it is measured in behind it.
 fn put_field(out: &mut [u8], at: usize, s: &[u8], width: usize, unit: &[u8]) -> usize
     requires { ⌜ at ≤ length (now out) ⌝ }
-    ensures { λ r. ⌜ (Adds (now (out .entry)) at (right (now (s .entry)) width (now (unit .entry))) (now (out .exit)) r) × (r ≤ length (now (out .exit))) ⌝ }
+    ensures { λ r. ⌜
+        (Adds (now (out .entry)) at (right (now (s .entry)) width (now (unit .entry))) (now (out .exit)) r)
+        × (r ≤ length (now (out .exit)))
+        ⌝ }
 {
     let size = part_end(s, 0, b';');
     let blanks = missing(size, width);
@@ -65,7 +70,12 @@ pub fn row(
     p: Pallet,
 ) -> Made
     requires { ⌜ parsed (now line) ≡ Row p ⌝ }
-    ensures { λ r. ⌜ (Shares c (now (table .entry)) (now (text .entry)) shared → Gives c (now (table .entry)) (now (text .entry)) r (now (table .exit)) (now (text .exit)) (rowDoc (now (line .entry)) p)) ⌝ }
+    ensures { λ r. ⌜
+        (Shares c (now (table .entry)) (now (text .entry)) shared
+        → Gives c (now (table .entry)) (now (text .entry))
+        r (now (table .exit)) (now (text .exit))
+        (rowDoc (now (line .entry)) p))
+        ⌝ }
 {
     let mut space = [32u8; 64];
     let n = put_row(&mut space, line, p);

@@ -1,12 +1,15 @@
 // From a chest's test results to the printed strip, or a message that names the line and what is wrong. Nothing is printed of a sheet
 // that can't be laid out whole, and a write that fails is told.
-// In order: messages; printing; the whole run.
+// In order: messages; printing; the whole run. marks.rt: where a mark is open.
+use buffer::parts::front;
+use buffer::parts::line_end;
 use build::Why;
-use pallets::Fault;
-use pallets::bytes::front;
-use pallets::input::Checked;
-use rows::Built;
+use chest::Built;
+use results::Fault;
+use results::input::Checked;
 use rules::EVENT_WORDS;
+
+mod marks;
 
 // Room for the most events that a call may have.
 const EVENTS: usize = 4096 * EVENT_WORDS;
@@ -95,7 +98,7 @@ fn print_line(fd: i32, line: &[u8], marked: bool) -> bool {
 fn print_all(fd: i32, out: &[u8], events: &[u32]) -> bool {
     let mut at = 0;
     while at < out.len() {
-        let end = pallets::bytes::part_end(out, at, 10);
+        let end = line_end(out, at);
         if !print_line(fd, &out[at..end], marks::marked(events, at)) {
             return false;
         }
@@ -132,7 +135,7 @@ fn lay_out(table: &[u32], text: &[u8], print: i32, tell: i32) -> bool {
         return false;
     }
     let used = r.used as usize;
-    let words = r.marks as usize * EVENT_WORDS;
+    let words = r.events as usize * EVENT_WORDS;
     print_whole(front(&out, used), words_front(&events, words), print, tell)
 }
 
@@ -156,7 +159,7 @@ pub fn run(input: &[u8], print: i32, tell: i32) -> bool {
         io::write_all(tell, b"there is no input\n");
         return false;
     }
-    let checked = pallets::input::check(input);
+    let checked = results::input::check(input);
     if let Checked::FaultAt(line, fault) = checked {
         tell_line(tell, line);
         tell_fault(tell, fault);
@@ -164,7 +167,7 @@ pub fn run(input: &[u8], print: i32, tell: i32) -> bool {
     }
     let mut table = [0u32; 4096];
     let mut text = [0u8; 65536];
-    let built = rows::build(input, &mut table, &mut text);
+    let built = chest::build(input, &mut table, &mut text);
     match built {
         Built::Full(line, why) => {
             tell_line(tell, line);

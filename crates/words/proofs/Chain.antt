@@ -4,6 +4,7 @@
 --     after                      from one answer to the next, over what the first built
 --     refused, given             an answer without a node, and an older node given back
 --     gives, nils .. joins      each constructor, by the documents of its operands
+--     answers, stops, goes       a chain of constructors, by the answer of the first
 -- Assumes nothing.
 use Prim.Native.Nat.{ℕ}
 use native.Mathlib.Omega.{arith}
@@ -19,12 +20,13 @@ use Rattle.build.specs.declared.Made.the-variants.{Node, Refused}
 use Rattle.build.specs.Outcome.{Outcome, outcome}
 use Rattle.build.specs.Constructors.{nilMade, hardlineMade, lineMade, groupMade, textMade, appendMade, nestMade, annotateMade, unionMade, concatMade}
 use Rattle.build.specs.Documents.{lineDoc, groupDoc, textDoc, appendDoc, nestDoc, concatDoc}
-use Rattle.pallets.specs.Lines.{characters}
+use Rattle.buffer.specs.Parts.{characters}
 use Rattle.build.specs.Promise.{ValidSoFar, Builds, Promise}
 use Rattle.build.proofs.Promises.{nil-promise, hardline-promise, line-promise, group-promise, text-promise, append-promise, nest-promise, annotate-promise, union-promise, concat-promise}
 use Rattle.words.specs.declared.Shared.{Shared}
 use Rattle.words.specs.Documents.{leafDoc}
 use Rattle.words.specs.Build.{Is, Shares, Gives}
+use Rattle.words.specs.Start.{next}
 
 pub empty-valid : (table text : List ℕ) → ValidSoFar (record { nodes = 0; bytes = 0 }) table text
 unfolding firstFault
@@ -102,3 +104,15 @@ module _ {c : Counts} {t x : List ℕ} where
       module _ {m : NodeNo} {f : Doc} (k : Is c t x m f) where
         pub joins : outcome r t′ x ≡ concatMade c t x (a .0 ∷ b .0 ∷ m .0 ∷ []) → Gives c t x r t′ x (concatDoc (d ∷ e ∷ f ∷ []))
         joins is = gives is (λ q. concatDoc (i .unfolds q ∷ j .unfolds q ∷ k .unfolds q ∷ [])) (concat-promise c t x (a .0 ∷ b .0 ∷ m .0 ∷ []))
+
+-- ---- a chain of constructors
+
+module _ {r : Made} {t x : List ℕ} {o : Outcome} (is : outcome r t x ≡ o) where
+  pub answers : {r′ : Made} → r ≡ r′ → outcome r′ t x ≡ o
+  answers e = ap (λ (m : Made). outcome m t x) (sym e) ∙ is
+
+  pub stops : (f : Counts → ℕ → List ℕ → List ℕ → Outcome) {why : Why} → r ≡ Refused why → outcome (Refused why) t x ≡ next o f
+  stops f e = ap (λ (z : Outcome). next z f) (answers e)
+
+  pub goes : (f : Counts → ℕ → List ℕ → List ℕ → Outcome) {c : Counts} {n : NodeNo} → r ≡ Node c n → f c (n .0) t x ≡ next o f
+  goes f e = ap (λ (z : Outcome). next z f) (answers e)

@@ -1,85 +1,22 @@
 -- The laws of cutting a text into words.
---     rest-is                     all from a place on
---     blank-.., no-blanks         blanks at a place
---     trim-..                     blanks at the end
---     goes-on, words-end, word-on     where words end that stay together
+--     blank-after, goes-on, words-end, word-on, at-.., all-together     where words end that stay together
 --     words-next, no-words        the next word, and the last
 -- Assumes nothing.
 use Prim.Native.Nat.{ℕ, zero, suc, _+_, _-_, _≤_, _<_}
 use native.Mathlib.Omega.{arith}
-use native.Mathlib.Numerals.{add-one}
 use mathlib.Core.Path.{_≡_, refl, sym, ap, _∙_}
-use mathlib.Core.Bool.{Bool, true, false, not, _&&_, _||_}
-use mathlib.Core.List.{List, [], _∷_, _++_}
+use mathlib.Core.Bool.{Bool, true, false}
+use mathlib.Core.List.{List, [], _∷_}
 use lib.ListN.{length, getD, take, drop, length-drop}
-use lib.Seq.{take-all, take-suc, drop-drop, length-take-le}
+use lib.Seq.{drop-drop}
 use lib.Dec.{eqb, ltb}
-use borrow.Author.Tests.{eq-eqb, ne-eqb, le-leb, lt-leb, lt-ltb, le-ltb, ltb-true, ltb-false}
+use borrow.Author.Tests.{lt-ltb, le-ltb}
 use Rattle.choice.specs.Pick.{pick}
-use Rattle.pallets.specs.Lines.{goesOn}
-use Rattle.pallets.proofs.Reading.{more, done}
-use Rattle.words.specs.Words.{blanks, skipped, trimmed, ends, togetherOn, together, wordsOn}
-
--- all from a place on
-pub rest-is : (s : List ℕ) (at : ℕ) → take (length s - at) (drop at s) ≡ drop at s
-rest-is s at = take-all (length s - at) (drop at s) (simp length-drop (omega arith))
-
--- ---- blanks at a place
-
-module _ (s : List ℕ) (i : ℕ) (h : i < length s) where
-  pub blank-next : getD s i 0 ≡ 32 → blanks (drop i s) ≡ blanks (drop (i + 1) s) + 1
-  unfolding blanks
-  blank-next e = rw (more s i h, eq-eqb (getD s i 0) 32 e, add-one (blanks (drop (i + 1) s)))
-
-  pub blank-not : (getD s i 0 ≡ 32 → ⊥) → blanks (drop i s) ≡ 0
-  unfolding blanks
-  blank-not e = rw (more s i h, ne-eqb (getD s i 0) 32 e)
-
-pub no-blanks : (s : List ℕ) (i : ℕ) → length s ≤ i → blanks (drop i s) ≡ 0
-unfolding blanks
-no-blanks s i h = rw (done s i h)
-
--- ---- blanks at the end
-
-last-blank : (xs : List ℕ) → trimmed (xs ++ (32 ∷ [])) ≡ trimmed xs
-unfolding trimmed
-last-blank [] = refl
-last-blank (x ∷ xs) = ap (λ (n : ℕ). pick (eqb n 0 && eqb x 32) 0 (suc n)) (last-blank xs)
-
-last-other : (xs : List ℕ) (b : ℕ) → (b ≡ 32 → ⊥) → trimmed (xs ++ (b ∷ [])) ≡ suc (length xs)
-unfolding trimmed
-last-other [] b e = rw (ne-eqb b 32 e)
-last-other (x ∷ xs) b e = ap (λ (n : ℕ). pick (eqb n 0 && eqb x 32) 0 (suc n)) (last-other xs b e) ∙ rw (ne-eqb (suc (length xs)) 0 (λ z. omega arith))
-
-module _ (s : List ℕ) (n : ℕ) (some : 0 < n) (h : n ≤ length s) where
-  split : take n s ≡ take (n - 1) s ++ (getD s (n - 1) 0 ∷ [])
-  split =
-      let e : n ≡ suc (n - 1) = omega arith in
-      ap (λ (k : ℕ). take k s) e ∙ take-suc s (n - 1) 0 (omega arith)
-
-  pub trim-here : (getD s (n - 1) 0 ≡ 32 → ⊥) → trimmed (take n s) ≡ n
-  trim-here e =
-      let size : length (take (n - 1) s) ≡ n - 1 = length-take-le (n - 1) s (omega arith) in
-      ap trimmed split ∙ last-other (take (n - 1) s) (getD s (n - 1) 0) e ∙ omega arith
-
-  pub trim-next : getD s (n - 1) 0 ≡ 32 → trimmed (take (n - 1) s) ≡ trimmed (take n s)
-  trim-next e = sym (ap trimmed split ∙ ap (λ (b : ℕ). trimmed (take (n - 1) s ++ (b ∷ []))) e ∙ last-blank (take (n - 1) s))
-
-pub trim-none : (s : List ℕ) (n : ℕ) → n ≤ 0 → n ≡ trimmed (take n s)
-unfolding trimmed
-trim-none s zero h = refl
-trim-none s (suc n) h = absurd (omega arith)
+use Rattle.buffer.specs.Parts.{goesOn, blanks, skipped}
+use Rattle.buffer.proofs.Reading.{more, done}
+use Rattle.words.specs.Words.{ends, togetherOn, together, wordsOn}
 
 -- ---- words that stay together
-
--- a byte goes on with a character where it starts none
-pub starts-is : (b : ℕ) → goesOn b ≡ not (ltb b 128 || ltb 191 b)
-starts-is b = go (ltb b 128) (ltb 191 b) refl refl
-  where
-    go : (t u : Bool) → ltb b 128 ≡ t → ltb 191 b ≡ u → goesOn b ≡ not (t || u)
-    go true u e f = rw (lt-leb 128 b (ltb-true b 128 e))
-    go false true e f = rw (le-leb 128 b (ltb-false b 128 e), lt-leb b 191 (ltb-true 191 b f))
-    go false false e f = rw (le-leb 128 b (ltb-false b 128 e), le-leb b 191 (ltb-false 191 b f))
 
 -- the last blank is not past the place
 pub blank-after : (b i last : ℕ) → last ≤ i → pick (eqb b 32) i last ≤ i

@@ -15,11 +15,12 @@ use Rattle.build.specs.declared.Made.{Made}
 use Rattle.build.specs.declared.Made.the-variants.{Node}
 use Rattle.build.specs.Documents.{appendDoc, softlineDoc, joinedDoc, separatedDoc, intersperseDoc}
 use Rattle.words.specs.Documents.{leafDoc, filledDoc}
-use Rattle.words.specs.Words.{blanks, skipped, together, wordsOn}
+use Rattle.buffer.specs.Parts.{blanks, skipped}
+use Rattle.words.specs.Words.{together, wordsOn}
 use Rattle.words.specs.Build.{Is, Gives}
 use Rattle.words.proofs.Chain.{new, kept, after, given}
 use Rattle.words.proofs.Cutting.{words-next, no-words}
-use Rattle.pallets.proofs.Reading.{done}
+use Rattle.buffer.proofs.Reading.{done}
 
 -- a node, what comes next between, and the words to come
 unfoldable pub onDoc : Doc → Doc → Doc → List (List ℕ) → Doc
@@ -54,7 +55,9 @@ abbrev pub Joins : Counts → List ℕ → List ℕ → NodeNo → NodeNo → Li
 Joins c t x n between w r t′ x′ = (d e : Doc) → Is c t x n d → Is c t x between e → Gives c t x r t′ x′ (appendDoc (appendDoc d e) (leafDoc w))
 
 module _ {c₀ : Counts} {t₀ x₀ : List ℕ} {separator all : Doc} {ws : List (List ℕ)} {c : Counts} {t x : List ℕ} {n between : NodeNo} (a : Adding c₀ t₀ x₀ separator all ws c t x n between) where
-  pub one-added : (w : List ℕ) (rest : List (List ℕ)) → ws ≡ w ∷ rest → {r : Made} {t′ x′ : List ℕ} → Joins c t x n between w r t′ x′ → {c′ : Counts} {n′ between′ : NodeNo} → r ≡ Node c′ n′ → Is c₀ t₀ x₀ between′ separator → Adding c₀ t₀ x₀ separator all rest c′ t′ x′ n′ between′
+  pub one-added : (w : List ℕ) (rest : List (List ℕ)) → ws ≡ w ∷ rest
+      → {r : Made} {t′ x′ : List ℕ} → Joins c t x n between w r t′ x′
+      → {c′ : Counts} {n′ between′ : NodeNo} → r ≡ Node c′ n′ → Is c₀ t₀ x₀ between′ separator → Adding c₀ t₀ x₀ separator all rest c′ t′ x′ n′ between′
   unfolding onDoc
   one-added w rest are {r} {t′} {x′} joins {c′} {n′} is i =
       let d = appendDoc (appendDoc (a .said) (a .next)) (leafDoc w) in
@@ -89,7 +92,9 @@ fill-start c t x none softline s most at e =
     }
 
 module _ {c₀ : Counts} {t₀ x₀ : List ℕ} {none softline : NodeNo} {s : List ℕ} {most at : ℕ} {c : Counts} {t x : List ℕ} {n between : NodeNo} (f : Filling c₀ t₀ x₀ none softline s most at c t x n between) where
-  pub fill-next : (size at′ : ℕ) → at < length s → size ≡ together most (drop at s) → 0 < size → at′ ≡ skipped s (at + size) → {r : Made} {t′ x′ : List ℕ} → Joins c t x n between (take (at + size - at) (drop at s)) r t′ x′ → {c′ : Counts} {n′ : NodeNo} → r ≡ Node c′ n′ → Filling c₀ t₀ x₀ none softline s most at′ c′ t′ x′ n′ softline
+  pub fill-next : (size at′ : ℕ) → at < length s → size ≡ together most (drop at s) → 0 < size → at′ ≡ skipped s (at + size)
+      → {r : Made} {t′ x′ : List ℕ} → Joins c t x n between (take (at + size - at) (drop at s)) r t′ x′
+      → {c′ : Counts} {n′ : NodeNo} → r ≡ Node c′ n′ → Filling c₀ t₀ x₀ none softline s most at′ c′ t′ x′ n′ softline
   fill-next size at′ h e some e′ joins is =
       let same : at + size - at ≡ size = omega arith in
       record {

@@ -8,10 +8,8 @@ use Rattle.build.specs.declared.Counts.{Counts}
 use Rattle.build.specs.declared.Made.{Made}
 use Rattle.build.specs.Outcome.{outcome}
 use Rattle.build.specs.Documents.{lineDoc, softlineDoc}
-use Rattle.build.specs.Promise.{ValidSoFar, docAt, Promise}
+use Rattle.build.specs.Promise.{docAt, Promise}
 use Rattle.words.specs.declared.Shared.{Shared}
-use Rattle.words.specs.declared.start.Start.{Start}
-use Rattle.words.specs.declared.start.Start.the-variants as start
 
 -- a present node unfolds to a document
 pub record Is (c : Counts) (table text : List ℕ) (n : NodeNo) (d : Doc) : Type 0 where
@@ -28,8 +26,3 @@ pub record Shares (c : Counts) (table text : List ℕ) (shared : Shared) : Type 
 -- the answer r, which leaves table′ and text′: whenever it is a node, it adds to a valid table, and unfolds to the document
 abbrev pub Gives : Counts → List ℕ → List ℕ → Made → List ℕ → List ℕ → Doc → Type 0
 Gives c table text r table′ text′ d = Promise c table text (outcome r table′ text′) d
-
--- the shared nodes, over a valid table
-abbrev pub Started : Start → List ℕ → List ℕ → Type 0
-Started (start.Ready c shared) table text = ValidSoFar c table text × Shares c table text shared
-Started start.Full table text = Unit {0}

@@ -4,8 +4,8 @@ use mathlib.Core.List.{List, map}
 use lib.ListN.{length, drop}
 use Rattle.table.specs.Document.{Doc}
 use Rattle.build.specs.Documents.{textDoc, softlineDoc, intersperseDoc}
-use Rattle.pallets.specs.Lines.{characters}
-use Rattle.words.specs.Words.{blanks, wordsOn}
+use Rattle.buffer.specs.Parts.{characters, blanks}
+use Rattle.words.specs.Words.{wordsOn}
 
 -- a Text, a column for each character
 abbrev pub leafDoc : List ℕ → Doc

@@ -1,5 +1,6 @@
--- What a text comes to: bytes written from the front, its words, its documents, and what the functions that build nodes promise.
-pub mod Bytes
+-- What a text comes to: its columns, its words, its documents, what the functions that build nodes promise, and the nodes that all share.
+pub mod Widths
 pub mod Words
 pub mod Documents
 pub mod Build
+pub mod Start

@@ -5,21 +5,7 @@ use mathlib.Core.List.{List, [], _∷_}
 use lib.ListN.{take, drop}
 use lib.Dec.{eqb, leb, ltb}
 use Rattle.choice.specs.Pick.{pick}
-use Rattle.pallets.specs.Lines.{goesOn}
-
--- how many blanks a text starts with
-unfoldable pub blanks : List ℕ → ℕ
-blanks [] = 0
-blanks (b ∷ bs) = pick (eqb b 32) (suc (blanks bs)) 0
-
--- the next place from there on that is no blank
-abbrev pub skipped : List ℕ → ℕ → ℕ
-skipped s from = from + blanks (drop from s)
-
--- how much of a text is left without the blanks at its end
-unfoldable pub trimmed : List ℕ → ℕ
-trimmed [] = 0
-trimmed (b ∷ bs) = pick (eqb (trimmed bs) 0 && eqb b 32) 0 (suc (trimmed bs))
+use Rattle.buffer.specs.Parts.{goesOn, skipped}
 
 -- whether words end before a byte: they have all the columns there are, or twelve of them and a blank follows
 abbrev pub ends : ℕ → ℕ → ℕ → Bool

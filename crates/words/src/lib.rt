@@ -1,22 +1,25 @@
-// Texts and words as nodes, for rows, headings and the footer of a sheet. Here: a text cut at its blanks and filled by softlines.
-// texts.rt: a Text of bytes, and bytes put into a row at a place; start.rt: the nodes that all share.
+// Texts and words as nodes, for rows, headings and the footer of a sheet: a Text of bytes, and a text cut at its blanks and filled by softlines.
+// start.rt: the nodes that all share. Only `together` has a `requires`.
 ghost use mathlib.Core.Path.{_≡_};
 ghost use Prim.Native.Nat.{_<_, _≤_};
 ghost use lib.ListN.{length};
-ghost use Rattle.choice.specs.Pick.{pick};
 ghost use lib.Dec.{eqb};
+ghost use Rattle.choice.specs.Pick.{pick};
 ghost use Rattle.table.specs.Document.{Doc};
 ghost use Rattle.build.specs.Documents.{appendDoc};
-ghost use Rattle.words.specs.Words.{skipped, trimmed, ends, together};
+ghost use Rattle.words.specs.Words.{ends, together};
 ghost use Rattle.words.specs.Documents.{leafDoc, filledDoc};
 ghost use Rattle.words.specs.Build.{Is, Shares, Gives};
+use buffer::parts::columns;
+use buffer::parts::skip;
 use build::Counts;
 use build::Made;
+use build::Why;
+use layout::DEFAULT_WIDTH;
+use table::Column;
 use table::NodeNo;
-use texts::leaf;
 
 pub mod start;
-pub mod texts;
 
 // The nodes that all rows and the footer share.
 pub struct Shared {
@@ -26,44 +29,15 @@ pub struct Shared {
     pub softline: NodeNo,
 }
 
-// How far a text is indented that goes below its row or heading, and how many of the strip's 42 columns that leaves.
+// The strip's columns, how far a text is indented that goes below its row or heading, and how many columns that leaves; specs/Widths.antt.
+pub const WIDTH: usize = DEFAULT_WIDTH as usize;
+
 pub const BELOW: u32 = 4;
 
-pub const WRAPPED: usize = 38;
-
-// The columns of a text that is not indented.
-pub const WHOLE: usize = 42;
+pub const WRAPPED: usize = WIDTH - BELOW as usize;
 
 // Words stay together up to so many columns: a place to break costs three nodes.
 const TOGETHER: usize = 12;
-
-// The next place from there on that is no blank.
-pub fn skip(s: &[u8], from: usize) -> usize
-    ensures { λ r. ⌜ r ≡ skipped (now (s .entry)) from ⌝ }
-{
-    let mut i = from;
-    while i < s.len() {
-        if s[i] != b' ' {
-            return i;
-        }
-        i += 1;
-    }
-    i
-}
-
-// Where the blanks at the end start.
-pub fn trimmed(s: &[u8]) -> usize
-    ensures { λ r. ⌜ r ≡ trimmed (now (s .entry)) ⌝ }
-{
-    let mut n = s.len();
-    while 0 < n {
-        if s[n - 1] != b' ' {
-            return n;
-        }
-        n -= 1;
-    }
-    n
-}
 
 // Whether no more goes into so many columns of words: they are enough and a blank follows, or they are all that there is room for.
 fn ends(wide: usize, b: u8, most: usize) -> bool
@@ -89,7 +63,11 @@ fn last_blank(last: usize, i: usize, b: u8) -> usize
 // `most`, at the last blank, so that a word is cut only if it has no room on a line of its own.
 fn together(s: &[u8], most: usize) -> usize
     requires { ⌜ 0 < length (now s) ⌝ }
-    ensures { λ r. ⌜ (r ≡ together most (now (s .entry))) × (0 < r) × (r ≤ length (now (s .entry))) ⌝ }
+    ensures { λ r. ⌜
+        (r ≡ together most (now (s .entry)))
+        × (0 < r)
+        × (r ≤ length (now (s .entry)))
+        ⌝ }
 {
     let mut wide: usize = 1;
     let mut last = 0;
@@ -114,6 +92,21 @@ fn together(s: &[u8], most: usize) -> usize
     i
 }
 
+// A Text of these bytes, a column for each character.
+pub fn leaf(c: Counts, table: &mut [u32], text: &mut [u8], bytes: &[u8]) -> Made
+    ensures { λ r. ⌜
+        Gives c (now (table .entry)) (now (text .entry))
+        r (now (table .exit)) (now (text .exit))
+        (leafDoc (now (bytes .entry)))
+        ⌝ }
+{
+    let wide = columns(bytes);
+    if 65536 < wide {
+        return Made::Refused(Why::Bytes);
+    }
+    c.text(table, text, bytes, Column(wide as u32))
+}
+
 // What stands, what comes between, and one Text more.
 pub fn add_word(
     c: Counts,
@@ -123,7 +116,14 @@ pub fn add_word(
     between: NodeNo,
     bytes: &[u8],
 ) -> Made
-    ensures { λ r. ⌜ ((d e : Doc) → Is c (now (table .entry)) (now (text .entry)) n d → Is c (now (table .entry)) (now (text .entry)) between e → Gives c (now (table .entry)) (now (text .entry)) r (now (table .exit)) (now (text .exit)) (appendDoc (appendDoc d e) (leafDoc (now (bytes .entry))))) ⌝ }
+    ensures { λ r. ⌜
+        ((d e : Doc)
+        → Is c (now (table .entry)) (now (text .entry)) n d
+        → Is c (now (table .entry)) (now (text .entry)) between e
+        → Gives c (now (table .entry)) (now (text .entry))
+        r (now (table .exit)) (now (text .exit))
+        (appendDoc (appendDoc d e) (leafDoc (now (bytes .entry)))))
+        ⌝ }
 {
     let made = c.append(table, text, n, between);
     let Made::Node(c, n) = made else {
@@ -145,7 +145,12 @@ pub fn filled(
     s: &[u8],
     most: usize,
 ) -> Made
-    ensures { λ r. ⌜ (Shares c (now (table .entry)) (now (text .entry)) shared → Gives c (now (table .entry)) (now (text .entry)) r (now (table .exit)) (now (text .exit)) (filledDoc most (now (s .entry)))) ⌝ }
+    ensures { λ r. ⌜
+        (Shares c (now (table .entry)) (now (text .entry)) shared
+        → Gives c (now (table .entry)) (now (text .entry))
+        r (now (table .exit)) (now (text .exit))
+        (filledDoc most (now (s .entry))))
+        ⌝ }
 {
     let softline = shared.softline;
     let mut c = c;

@@ -45,20 +45,26 @@ loop-less c = search needs
 
 loop-again : tie.Need-loop-again Inv-loop μ-loop
 loop-again c =
-    let L = c .before .before .loop in
-    let a = c .before .before .before .args in
-    let src = a .src .now in
-    (omega arith, ap (λ (l : List ℕ). set l (a .at + L .i) (getD src (a .from + L .i) 0)) (L .inv .1) ∙ copy-more (a .dst .now) (a .at) src (a .from) 0 (L .i) (omega arith) (omega arith), simp length-set (L .inv .2))
+    let turn = c .before .before in
+    let args = turn .before .args in
+    let L = turn .loop in
+    let src = args .src .now in (
+      omega arith,
+      ap (λ (l : List ℕ). set l (args .at + L .i) (getD src (args .from + L .i) 0)) (L .inv .1)
+          ∙ copy-more (args .dst .now) (args .at) src (args .from) 0 (L .i) (omega arith) (omega arith),
+      simp length-set (L .inv .2),
+    )
 
 same-length : tie.Need-same-length Inv-loop μ-loop
 same-length c = search needs
 
 returns : tie.Need-returns Inv-loop μ-loop
 returns c =
-    let L = c .before .loop in
-    let a = c .before .before .args in
-    let e : L .i ≡ a .n = omega arith in
-    L .inv .1 ∙ ap (λ (m : ℕ). put (a .dst .now) (a .at) (take m (drop (a .from) (a .src .now)))) e
+    let turn = c .before in
+    let args = turn .before .args in
+    let L = turn .loop in
+    let e : L .i ≡ args .n = omega arith in
+    L .inv .1 ∙ ap (λ (m : ℕ). put (args .dst .now) (args .at) (take m (drop (args .from) (args .src .now)))) e
 
 pub copy-words-spec : {M : Type 1} → statement M
 copy-words-spec =

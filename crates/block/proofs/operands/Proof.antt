@@ -15,13 +15,16 @@ has-all-requires-2 c κs = search needs
 
 returns : tie.Need-returns
 returns c =
-    let at2 = c .before .before in
-    let at3 = at2 .before in
-    let at4 = at3 .before in
-    rw (← (at4 .has .ensures), at3 .if1 .taken, ← (at2 .has-all .ensures), c .before .if2 .taken) (c .has-all2 .ensures)
+    let then2 = c .before in
+    let after-has-all = then2 .before in
+    let then1 = after-has-all .before in
+    rw (← (then1 .before .has .ensures), then1 .if1 .taken, ← (after-has-all .has-all .ensures), then2 .if2 .taken) (c .has-all2 .ensures)
 
 returns-2 : tie.Need-returns-2
-returns-2 c = rw (← (c .before .before .before .has .ensures), c .before .before .if1 .taken, ← (c .before .has-all .ensures), c .if2 .left) refl
+returns-2 c =
+    let after-has-all = c .before in
+    let then1 = after-has-all .before in
+    rw (← (then1 .before .has .ensures), then1 .if1 .taken, ← (after-has-all .has-all .ensures), c .if2 .left) refl
 
 returns-3 : tie.Need-returns-3
 returns-3 c = rw (← (c .before .has .ensures), c .if1 .left) refl

@@ -5,6 +5,10 @@ use Rattle.block.proofs.Places.{own-ready, placed-stop, placed-short, p
 use Rattle.block.proofs.placed.Statement.{statement}
 use Rattle.block.proofs.placed.Tie as tie
 
+-- back to earlier places
+abbrev start-of : tie.After-copy-words → tie.Start
+start-of c = c .before .before .before .before .before .before .before .before .before
+
 cast-used : tie.Need-cast-used
 cast-used c = search needs
 
@@ -22,9 +26,9 @@ slice-aggregate-layouts c = search needs
 
 layouts-requires : tie.Need-layouts-requires
 layouts-requires c κs =
-    let at2 = c .before .before in
-    let start = at2 .before .before .before .before .before .before .before .before .before in
-    (own-ready (start .pre .0) (start .pre .1) (start .pre .2) (at2 .copy-words .ensures), start .pre .1)
+    let after-copy-words = c .before .before in
+    let start = start-of after-copy-words in
+    (own-ready (start .pre .0) (start .pre .1) (start .pre .2) (after-copy-words .copy-words .ensures), start .pre .1)
 
 enum-known-made : tie.Need-enum-known-made
 enum-known-made c = search needs
@@ -37,10 +41,11 @@ same-length c = search needs
 
 returns : tie.Need-returns
 returns c =
-    let at3 = c .before .before .before in
-    let at6 = at3 .before .before .before in
-    let start = at6 .before .before .before .before .before .before .before .before .before in
-    placed-stop (start .pre .0) (start .pre .1) (start .pre .2) (at6 .copy-words .ensures) (at3 .layouts .ensures) (c .enum-told .given .1)
+    let after-layouts = c .before .before .before in
+    let after-copy-words = after-layouts .before .before .before in
+    let start = start-of after-copy-words in
+    placed-stop (start .pre .0) (start .pre .1) (start .pre .2) (after-copy-words .copy-words .ensures) (after-layouts .layouts .ensures)
+    (c .enum-told .given .1)
 
 cast-nodes : tie.Need-cast-nodes
 cast-nodes c = search needs
@@ -50,11 +55,12 @@ same-length-2 c = search needs
 
 returns-2 : tie.Need-returns-2
 returns-2 c =
-    let at3 = c .before .before .before in
-    let at6 = at3 .before .before .before in
-    let at9 = at6 .before .before .before in
-    let start = at9 .before .before .before .before .before .before .before .before .before in
-    placed-short (start .pre .0) (start .pre .1) (start .pre .2) (at9 .copy-words .ensures) (at6 .layouts .ensures) (at3 .made .given .1) (c .if1 .taken)
+    let after-made = c .before .before .before in
+    let after-layouts = after-made .before .before .before in
+    let after-copy-words = after-layouts .before .before .before in
+    let start = start-of after-copy-words in
+    placed-short (start .pre .0) (start .pre .1) (start .pre .2) (after-copy-words .copy-words .ensures) (after-layouts .layouts .ensures)
+    (after-made .made .given .1) (c .if1 .taken)
 
 slice-aggregate-copy-words-2 : tie.Need-slice-aggregate-copy-words-2
 slice-aggregate-copy-words-2 c = search needs
@@ -64,27 +70,24 @@ mul-copy-words c = search needs
 
 sub-copy-words : tie.Need-sub-copy-words
 sub-copy-words c =
-    let at4 = c .before .before .before .before in
-    let at7 = at4 .before .before .before in
-    let at10 = at7 .before .before .before in
-    let start = at10 .before .before .before .before .before .before .before .before .before in
-    placed-copies
-    (start .pre .0)
-    (start .pre .1)
-    (start .pre .2)
-    (at10 .copy-words .ensures)
-    (at7 .layouts .ensures)
-    (at4 .made .given .1)
-    (c .before .if1 .left) .0
+    let else1 = c .before in
+    let after-made = else1 .before .before .before in
+    let after-layouts = after-made .before .before .before in
+    let after-copy-words = after-layouts .before .before .before in
+    let start = start-of after-copy-words in
+    placed-copies (start .pre .0) (start .pre .1) (start .pre .2) (after-copy-words .copy-words .ensures) (after-layouts .layouts .ensures)
+    (after-made .made .given .1) (else1 .if1 .left) .0
 
 copy-words-requires-2 : tie.Need-copy-words-requires-2
 copy-words-requires-2 c κs =
-    let at2 = c .before .before in
-    let at5 = at2 .before .before .before in
-    let at8 = at5 .before .before .before in
-    let at11 = at8 .before .before .before in
-    let start = at11 .before .before .before .before .before .before .before .before .before in
-    let x = placed-copies (start .pre .0) (start .pre .1) (start .pre .2) (at11 .copy-words .ensures) (at8 .layouts .ensures) (at5 .made .given .1) (at2 .if1 .left) in
+    let else1 = c .before .before in
+    let after-made = else1 .before .before .before in
+    let after-layouts = after-made .before .before .before in
+    let after-copy-words = after-layouts .before .before .before in
+    let start = start-of after-copy-words in
+    let x =
+    placed-copies (start .pre .0) (start .pre .1) (start .pre .2) (after-copy-words .copy-words .ensures) (after-layouts .layouts .ensures)
+    (after-made .made .given .1) (else1 .if1 .left) in
     (omega arith, omega arith)
 
 same-length-3 : tie.Need-same-length-3
@@ -92,21 +95,14 @@ same-length-3 c = search needs
 
 returns-3 : tie.Need-returns-3
 returns-3 c =
-    let at2 = c .before .before in
-    let at5 = at2 .before .before .before in
-    let at8 = at5 .before .before .before in
-    let at11 = at8 .before .before .before in
-    let at14 = at11 .before .before .before in
-    let start = at14 .before .before .before .before .before .before .before .before .before in
-    placed-last
-    (start .pre .0)
-    (start .pre .1)
-    (start .pre .2)
-    (at14 .copy-words .ensures)
-    (at11 .layouts .ensures)
-    (at8 .made .given .1)
-    (at5 .if1 .left)
-    (at2 .copy-words2 .ensures)
+    let after-copy-words2 = c .before .before in
+    let else1 = after-copy-words2 .before .before .before in
+    let after-made = else1 .before .before .before in
+    let after-layouts = after-made .before .before .before in
+    let after-copy-words = after-layouts .before .before .before in
+    let start = start-of after-copy-words in
+    placed-last (start .pre .0) (start .pre .1) (start .pre .2) (after-copy-words .copy-words .ensures) (after-layouts .layouts .ensures)
+    (after-made .made .given .1) (else1 .if1 .left) (after-copy-words2 .copy-words2 .ensures)
 
 pub placed-spec : {M : Type 1} → statement M
 placed-spec =

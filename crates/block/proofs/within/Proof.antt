@@ -5,6 +5,10 @@ use Rattle.block.proofs.Asking.{within-refused, within-body, within-ask
 use Rattle.block.proofs.within.Statement.{statement}
 use Rattle.block.proofs.within.Tie as tie
 
+-- back to earlier places
+abbrev start-of : tie.After-operands → tie.Start
+start-of c = c .before .before .before .before .before .before .before .before
+
 operands-requires : tie.Need-operands-requires
 operands-requires c κs = search needs
 
@@ -22,49 +26,64 @@ enum-known-asked c = search needs
 
 returns : tie.Need-returns
 returns c =
-    let at3 = c .before .before .before in
-    let at4 = at3 .before in
-    let at5 = at4 .before in
-    let at6 = at5 .before in
-    let start = at6 .before .before .before .before .before .before .before .before in
-    within-refused (start .args .c) (start .args .table .now) (start .args .text .now) (start .args .block) (start .args .prefixes .now) (start .args .suffixes .now) (start .args .nests .now) _ (sym (rw (at6 .operands .ensures, at5 .nest-right .ensures, at4 .least .ensures) at (at3 .ask .ensures)) ∙ c .before .asked .given .1)
+    let after-asked = c .before in
+    let after-ask = after-asked .before .before in
+    let after-least = after-ask .before in
+    let after-nest-right = after-least .before in
+    let after-operands = after-nest-right .before in
+    let args = start-of after-operands .args in
+    within-refused (args .c) (args .table .now) (args .text .now) (args .block) (args .prefixes .now) (args .suffixes .now) (args .nests .now) _
+    (sym (rw (after-operands .operands .ensures, after-nest-right .nest-right .ensures, after-least .least .ensures) at (after-ask .ask .ensures))
+    ∙ after-asked .asked .given .1)
 
 enum-told : tie.Need-enum-told
 enum-told c = search needs
 
 returns-2 : tie.Need-returns-2
 returns-2 c =
-    let at3 = c .before .before .before in
-    let at4 = at3 .before in
-    let at5 = at4 .before in
-    let at6 = at5 .before in
-    let start = at6 .before .before .before .before .before .before .before .before in
-    within-body (start .args .c) (start .args .table .now) (start .args .text .now) (start .args .block) (start .args .prefixes .now) (start .args .suffixes .now) (start .args .nests .now) (sym (rw (at6 .operands .ensures, at5 .nest-right .ensures, at4 .least .ensures) at (at3 .ask .ensures)) ∙ c .before .enum-told .given .1) (c .if1 .taken)
+    let after-enum-told = c .before in
+    let after-ask = after-enum-told .before .before in
+    let after-least = after-ask .before in
+    let after-nest-right = after-least .before in
+    let after-operands = after-nest-right .before in
+    let args = start-of after-operands .args in
+    within-body (args .c) (args .table .now) (args .text .now) (args .block) (args .prefixes .now) (args .suffixes .now) (args .nests .now)
+    (sym (rw (after-operands .operands .ensures, after-nest-right .nest-right .ensures, after-least .least .ensures) at (after-ask .ask .ensures))
+    ∙ after-enum-told .enum-told .given .1)
+    (c .if1 .taken)
 
 placed-requires : tie.Need-placed-requires
 placed-requires c κs =
-    let at2 = c .before .before in
-    let at4 = at2 .before .before in
-    let at5 = at4 .before in
-    let at6 = at5 .before in
-    let at7 = at6 .before in
-    let start = at7 .before .before .before .before .before .before .before .before in
-    within-asks (start .args .c) (start .args .table .now) (start .args .text .now) (start .args .block) (start .args .prefixes .now) (start .args .suffixes .now) (start .args .nests .now) (sym (rw (at7 .operands .ensures, at6 .nest-right .ensures, at5 .least .ensures) at (at4 .ask .ensures)) ∙ at2 .enum-told .given .1) (c .before .if1 .left) (start .pre)
+    let else1 = c .before in
+    let after-enum-told = else1 .before in
+    let after-ask = after-enum-told .before .before in
+    let after-least = after-ask .before in
+    let after-nest-right = after-least .before in
+    let after-operands = after-nest-right .before in
+    let start = start-of after-operands in
+    let args = start .args in
+    within-asks (args .c) (args .table .now) (args .text .now) (args .block) (args .prefixes .now) (args .suffixes .now) (args .nests .now)
+    (sym (rw (after-operands .operands .ensures, after-nest-right .nest-right .ensures, after-least .least .ensures) at (after-ask .ask .ensures))
+    ∙ after-enum-told .enum-told .given .1)
+    (else1 .if1 .left) (start .pre)
 
 same-length : tie.Need-same-length
 same-length c = search needs
 
 returns-3 : tie.Need-returns-3
 returns-3 c =
-    let at2 = c .before .before in
-    let at4 = at2 .before .before in
-    let at5 = at4 .before in
-    let at7 = at5 .before .before in
-    let at8 = at7 .before in
-    let at9 = at8 .before in
-    let at10 = at9 .before in
-    let start = at10 .before .before .before .before .before .before .before .before in
-    within-last (start .args .c) (start .args .table .now) (start .args .text .now) (start .args .block) (start .args .prefixes .now) (start .args .suffixes .now) (start .args .nests .now) (sym (rw (at10 .operands .ensures, at9 .nest-right .ensures, at8 .least .ensures) at (at7 .ask .ensures)) ∙ at5 .enum-told .given .1) (at4 .if1 .left) (at2 .placed .ensures)
+    let after-placed = c .before .before in
+    let else1 = after-placed .before .before in
+    let after-enum-told = else1 .before in
+    let after-ask = after-enum-told .before .before in
+    let after-least = after-ask .before in
+    let after-nest-right = after-least .before in
+    let after-operands = after-nest-right .before in
+    let args = start-of after-operands .args in
+    within-last (args .c) (args .table .now) (args .text .now) (args .block) (args .prefixes .now) (args .suffixes .now) (args .nests .now)
+    (sym (rw (after-operands .operands .ensures, after-nest-right .nest-right .ensures, after-least .least .ensures) at (after-ask .ask .ensures))
+    ∙ after-enum-told .enum-told .given .1)
+    (else1 .if1 .left) (after-placed .placed .ensures)
 
 pub within-spec : {M : Type 1} → statement M
 within-spec =

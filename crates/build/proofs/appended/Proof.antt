@@ -20,7 +20,10 @@ same-length : tie.Need-same-length
 same-length c = search needs
 
 returns-2 : tie.Need-returns-2
-returns-2 c = rw (c .before .before .before .before .before .made .given .1) (c .before .before .append .ensures)
+returns-2 c =
+    let after-append = c .before .before in
+    let after-made = after-append .before .before .before in
+    rw (after-made .made .given .1) (after-append .append .ensures)
 
 pub appended-spec : {M : Type 1} → statement M
 appended-spec = tie.close (tie.spec enum-known-made enum-told returns append-requires same-length returns-2)

@@ -47,7 +47,9 @@ same-length : tie.Need-same-length
 same-length c = search needs
 
 returns : tie.Need-returns
-returns c = words-put (c .args .table .now) (c .args .n * 4) (c .args .k) (c .args .a) (c .args .b) (c .args .c) (c .pre)
+returns c =
+    let words = c .args .words in
+    words-put (c .args .table .now) (c .args .n * 4) (words .kind) (words .a) (words .b) (words .c) (c .pre)
 
 pub put-spec : {M : Type 1} → statement M
 put-spec =

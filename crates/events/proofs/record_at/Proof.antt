@@ -1,4 +1,4 @@
--- `events::record_at` meets its contract: past the first marks, or past the words, there is none; else its words are read.
+-- `events::record_at` meets its contract: past the used ones, or past the words, there is none; else its words are read.
 -- Assumes nothing.
 use borrow.Author.Needs.{needs}
 use borrow.Author.Tests.{le-ltb, lt-ltb}

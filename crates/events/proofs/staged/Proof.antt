@@ -1,4 +1,4 @@
--- `events::staged` meets its contract: more records than a call may lend are refused with the buffers cleared; else the covered call is made over the words.
+-- `events::staged` meets its contract: more records than a call may lend are refused with the buffers cleared; else the call is made over the words.
 -- Assumes nothing.
 use borrow.Author.Needs.{needs}
 use mathlib.Core.Path.{sym}
@@ -22,10 +22,9 @@ same-length-2 c = search needs
 
 returns : tie.Need-returns
 returns c =
-    let at2 = c .before .before in
-    let at6 = at2 .before .before .before .before in
-    let at8 = at6 .before .before in
-    refused-called _ _ _ _ (at8 .if1 .taken) (at6 .clear-bytes .ensures) (at2 .clear-words .ensures)
+    let worked = c .before .before in
+    let wrote = worked .before .before .before .before in
+    refused-called _ _ _ _ (wrote .before .before .if1 .taken) (wrote .clear-bytes .ensures) (worked .clear-words .ensures)
 
 mul-n : tie.Need-mul-n
 mul-n c = search needs
@@ -49,7 +48,9 @@ same-length-5 : tie.Need-same-length-5
 same-length-5 c = search needs
 
 returns-2 : tie.Need-returns-2
-returns-2 c = staged-asked _ _ _ _ _ _ _ _ _ _ _ _ _ (simp length-take (omega arith)) (c .before .before .before .before .before .before .layout .ensures)
+returns-2 c =
+    let called = c .before .before .before .before .before .before .layout in
+    staged-asked _ _ _ _ _ _ _ _ _ (simp length-take (omega arith)) (called .ensures)
 
 pub staged-spec : {M : Type 1} → statement M
 staged-spec =

@@ -5,7 +5,7 @@ use mathlib.Core.Path.{refl, ap, _∙_}
 use Rattle.words.proofs.Chain.{gives}
 use Rattle.words.specs.Documents.{leafDoc}
 use Rattle.footer.specs.Documents.{allText, withinText}
-use Rattle.words.proofs.Placing.{placed-length}
+use Rattle.buffer.proofs.Placing.{placed-length}
 use Rattle.footer.proofs.Footing.{said-of-all, within-one, within-all}
 use Rattle.footer.proofs.all_within.Statement.{statement}
 use Rattle.footer.proofs.all_within.Tie as tie
@@ -17,17 +17,15 @@ leaf-requires : tie.Need-leaf-requires
 leaf-requires c κs = tt
 
 same-length : tie.Need-same-length
-same-length c = c .before .before .before .before .leaf .kept .1 .0
+same-length c = search needs
 
 same-length-2 : tie.Need-same-length-2
-same-length-2 c = c .before .before .before .before .leaf .kept .1 .1 .0
+same-length-2 c = search needs
 
 returns : tie.Need-returns
 returns c =
-    let at4 = c .before .before .before .before in
-    let at8 = at4 .before .before .before .before in
-    let start = at8 .before .before .before in
-    gives refl (within-one (start .args .rows) (at8 .if1 .taken)) (at4 .leaf .ensures)
+    let after-leaf = c .before .before .before .before in
+    gives refl (within-one _ (omega arith)) (after-leaf .leaf .ensures)
 
 slice-aggregate-put-digits : tie.Need-slice-aggregate-put-digits
 slice-aggregate-put-digits c = search needs
@@ -63,10 +61,7 @@ slice-aggregate-put-5 : tie.Need-slice-aggregate-put-5
 slice-aggregate-put-5 c = search needs
 
 put-requires-3 : tie.Need-put-requires-3
-put-requires-3 c κs =
-    let at3 = c .before .before .before in
-    let at8 = at3 .before .before .before .before .before in
-    placed-length (at3 .put2 .ensures) (placed-length (at8 .put .ensures) (omega arith) .1) .1
+put-requires-3 c κs = placed-length (c .before .before .before .put2 .ensures) (search needs) .1
 
 slice-aggregate-front : tie.Need-slice-aggregate-front
 slice-aggregate-front c = search needs
@@ -78,23 +73,26 @@ leaf-requires-2 : tie.Need-leaf-requires-2
 leaf-requires-2 c κs = tt
 
 same-length-3 : tie.Need-same-length-3
-same-length-3 c = c .before .before .before .before .leaf2 .kept .1 .0
+same-length-3 c = search needs
 
 same-length-4 : tie.Need-same-length-4
-same-length-4 c = c .before .before .before .before .leaf2 .kept .1 .1 .0
+same-length-4 c = search needs
 
 returns-2 : tie.Need-returns-2
 returns-2 c =
-    let at4 = c .before .before .before .before in
-    let at5 = at4 .before in
-    let at10 = at5 .before .before .before .before .before in
-    let at14 = at10 .before .before .before .before in
-    let at15 = at14 .before in
-    let at19 = at15 .before .before .before .before in
-    let at23 = at19 .before .before .before .before in
-    let at25 = at23 .before .before in
-    let start = at25 .before .before .before in
-    gives refl (ap leafDoc (at5 .front .ensures ∙ said-of-all (start .args .rows) allText withinText _ (at15 .behind .ensures ∙ at23 .put-digits .ensures) (at19 .put .ensures) (at14 .put2 .ensures) (at10 .put3 .ensures) (omega arith)) ∙ within-all (start .args .rows) (at25 .if1 .left)) (at4 .leaf2 .ensures)
+    let after-leaf2 = c .before .before .before .before in
+    let after-front = after-leaf2 .before in
+    let after-put3 = after-front .before .before .before .before .before in
+    let after-put2 = after-put3 .before .before .before .before in
+    let after-behind = after-put2 .before in
+    let after-put = after-behind .before .before .before .before in
+    let after-put-digits = after-put .before .before .before .before in
+    let number = after-behind .behind .ensures ∙ after-put-digits .put-digits .ensures in
+    let said = said-of-all _ allText withinText number (after-put .put .ensures) (after-put2 .put2 .ensures) (after-put3 .put3 .ensures) (omega arith) in
+    gives
+    refl
+    (ap leafDoc (after-front .front .ensures ∙ said) ∙ within-all _ (λ z. omega arith))
+    (after-leaf2 .leaf2 .ensures)
 
 pub all-within-spec : {M : Type 1} → statement M
 all-within-spec =

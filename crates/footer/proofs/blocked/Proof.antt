@@ -1,6 +1,6 @@
 -- `footer::blocked` meets its contract. Assumes nothing.
 use borrow.Author.Needs.{needs}
-use mathlib.Core.Path.{refl, _∙_}
+use mathlib.Core.Path.{refl}
 use Rattle.words.proofs.Chain.{new, kept, after, refused, appends}
 use Rattle.footer.proofs.Footing.{blocks}
 use Rattle.footer.specs.Documents.{headedDoc}
@@ -17,10 +17,10 @@ enum-told : tie.Need-enum-told
 enum-told c = search needs
 
 same-length : tie.Need-same-length
-same-length c = c .before .before .before .before .append .kept .1 .0
+same-length c = search needs
 
 same-length-2 : tie.Need-same-length-2
-same-length-2 c = refl
+same-length-2 c = search needs
 
 returns : tie.Need-returns
 returns c = λ d s i. refused (c .enum-told .given .1)
@@ -38,13 +38,10 @@ enum-told-2 : tie.Need-enum-told-2
 enum-told-2 c = search needs
 
 same-length-3 : tie.Need-same-length-3
-same-length-3 c =
-    let at6 = c .before .before .before .before .before .before in
-    let at15 = at6 .before .before .before .before .before .before .before .before .before in
-    at6 .leaf .kept .1 .0 ∙ at15 .append .kept .1 .0
+same-length-3 c = search needs
 
 same-length-4 : tie.Need-same-length-4
-same-length-4 c = c .before .before .before .before .before .before .leaf .kept .1 .1 .0
+same-length-4 c = search needs
 
 returns-2 : tie.Need-returns-2
 returns-2 c = λ d s i. refused (c .enum-told2 .given .1)
@@ -62,24 +59,23 @@ format-requires : tie.Need-format-requires
 format-requires c κs = tt
 
 same-length-5 : tie.Need-same-length-5
-same-length-5 c =
-    let at2 = c .before .before in
-    let at15 = at2 .before .before .before .before .before .before .before .before .before .before .before .before .before in
-    let at24 = at15 .before .before .before .before .before .before .before .before .before in
-    at2 .format .kept .1 .1 .0 ∙ at15 .leaf .kept .1 .0 ∙ at24 .append .kept .1 .0
+same-length-5 c = search needs
 
 same-length-6 : tie.Need-same-length-6
-same-length-6 c = c .before .before .before .before .before .before .before .before .before .before .before .before .before .before .before .leaf .kept .1 .1 .0
+same-length-6 c = search needs
 
 returns-3 : tie.Need-returns-3
 unfolding headedDoc
 returns-3 c =
-    let at2 = c .before .before in
-    let at9 = at2 .before .before .before .before .before .before .before in
-    let at15 = at9 .before .before .before .before .before .before in
-    let at20 = at15 .before .before .before .before .before in
-    let at24 = at20 .before .before .before .before in
-    λ d s i. after (appends (s .line) i (at24 .append .ensures)) (at20 .made .given .1) (λ b. after (at15 .leaf .ensures) (at9 .made2 .given .1) (λ q. blocks (kept q (new b)) (new q) (kept q (kept b (s .none))) _ refl (at2 .format .ensures)))
+    let after-format = c .before .before in
+    let after-made2 = after-format .before .before .before .before .before .before .before in
+    let after-leaf = after-made2 .before .before .before .before .before .before in
+    let after-made = after-leaf .before .before .before .before .before in
+    λ d s i.
+    after
+    (appends (s .line) i (after-made .before .before .before .before .append .ensures))
+    (after-made .made .given .1)
+    (λ b. after (after-leaf .leaf .ensures) (after-made2 .made2 .given .1) (λ q. blocks (kept q (new b)) (new q) (kept q (kept b (s .none))) _ refl (after-format .format .ensures)))
 
 pub blocked-spec : {M : Type 1} → statement M
 blocked-spec =

@@ -1,5 +1,4 @@
 -- `footer::comma` meets its contract. Assumes nothing.
-use mathlib.Core.Path.{_∙_}
 use borrow.Author.Needs.{needs}
 use Rattle.words.proofs.Chain.{new, kept, after, refused, appends}
 use Rattle.footer.proofs.comma.Statement.{statement}
@@ -18,10 +17,10 @@ enum-told : tie.Need-enum-told
 enum-told c = search needs
 
 same-length : tie.Need-same-length
-same-length c = c .before .before .before .before .before .before .leaf .kept .1 .0
+same-length c = search needs
 
 same-length-2 : tie.Need-same-length-2
-same-length-2 c = c .before .before .before .before .before .before .leaf .kept .1 .1 .0
+same-length-2 c = search needs
 
 returns : tie.Need-returns
 returns c = λ i. refused (c .enum-told .given .1)
@@ -30,20 +29,16 @@ append-requires : tie.Need-append-requires
 append-requires c κs = tt
 
 same-length-3 : tie.Need-same-length-3
-same-length-3 c =
-    let at2 = c .before .before in
-    let at12 = at2 .before .before .before .before .before .before .before .before .before .before in
-    at2 .append .kept .1 .0 ∙ at12 .leaf .kept .1 .0
+same-length-3 c = search needs
 
 same-length-4 : tie.Need-same-length-4
-same-length-4 c = c .before .before .before .before .before .before .before .before .before .before .before .before .leaf .kept .1 .1 .0
+same-length-4 c = search needs
 
 returns-2 : tie.Need-returns-2
 returns-2 c =
-    let at2 = c .before .before in
-    let at6 = at2 .before .before .before .before in
-    let at12 = at6 .before .before .before .before .before .before in
-    λ i. after (at12 .leaf .ensures) (at6 .made .given .1) (λ b. appends (new b) (kept b i) (at2 .append .ensures))
+    let after-append = c .before .before in
+    let after-made = after-append .before .before .before .before in
+    λ i. after (after-made .before .before .before .before .before .before .leaf .ensures) (after-made .made .given .1) (λ b. appends (new b) (kept b i) (after-append .append .ensures))
 
 pub comma-spec : {M : Type 1} → statement M
 comma-spec =

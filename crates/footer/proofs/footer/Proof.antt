@@ -1,7 +1,6 @@
 -- `footer::footer` meets its contract. Assumes nothing.
 use borrow.Author.Needs.{needs}
-use mathlib.Core.Path.{refl, _∙_}
-use Rattle.pallets.specs.Lines.{lines}
+use mathlib.Core.Path.{refl}
 use Rattle.words.proofs.Chain.{new, kept, after, refused, given, gives, joins}
 use Rattle.footer.proofs.Footing.{footer-none, footer-some}
 use Rattle.footer.proofs.footer.Statement.{statement}
@@ -12,9 +11,7 @@ count-requires c κs = tt
 
 returns : tie.Need-returns
 returns c =
-    let at2 = c .before .before in
-    let start = at2 .before .before .before .before .before .before in
-    λ s. gives refl (footer-none _ (lines (start .args .input .now)) (at2 .count .ensures .0) (c .if1 .taken)) (given (s .none))
+    λ s. gives refl (footer-none _ (c .if1 .taken) (cc)) (given (s .none))
 
 said-requires : tie.Need-said-requires
 said-requires c κs = search needs
@@ -26,10 +23,10 @@ enum-told : tie.Need-enum-told
 enum-told c = search needs
 
 same-length : tie.Need-same-length
-same-length c = c .before .before .before .before .before .before .said .kept .1 .0
+same-length c = search needs
 
 same-length-2 : tie.Need-same-length-2
-same-length-2 c = c .before .before .before .before .before .before .said .kept .1 .1 .0
+same-length-2 c = search needs
 
 returns-2 : tie.Need-returns-2
 returns-2 c = λ s. refused (c .enum-told .given .1)
@@ -41,23 +38,21 @@ concat-requires : tie.Need-concat-requires
 concat-requires c κs = tt
 
 same-length-3 : tie.Need-same-length-3
-same-length-3 c =
-    let at2 = c .before .before in
-    let at13 = at2 .before .before .before .before .before .before .before .before .before .before .before in
-    at2 .concat .kept .1 .0 ∙ at13 .said .kept .1 .0
+same-length-3 c = search needs
 
 same-length-4 : tie.Need-same-length-4
-same-length-4 c = c .before .before .before .before .before .before .before .before .before .before .before .before .before .said .kept .1 .1 .0
+same-length-4 c = search needs
 
 returns-3 : tie.Need-returns-3
 returns-3 c =
-    let at2 = c .before .before in
-    let at7 = at2 .before .before .before .before .before in
-    let at13 = at7 .before .before .before .before .before .before in
-    let at16 = at13 .before .before .before in
-    let at18 = at16 .before .before in
-    let start = at18 .before .before .before .before .before .before in
-    λ s. gives refl (footer-some _ (lines (start .args .input .now)) (at18 .count .ensures .0) (at16 .if1 .left)) (after (at13 .said .ensures s) (at7 .made .given .1) (λ b. joins (kept b (s .hardline)) (new b) (kept b (s .hardline)) (at2 .concat .ensures)))
+    let after-concat = c .before .before in
+    let after-made = after-concat .before .before .before .before .before in
+    let after-said = after-made .before .before .before .before .before .before in
+    λ s.
+    gives
+    refl
+    (footer-some _ (after-said .before .before .before .if1 .left) (cc))
+    (after (after-said .said .ensures s) (after-made .made .given .1) (λ b. joins (kept b (s .hardline)) (new b) (kept b (s .hardline)) (after-concat .concat .ensures)))
 
 pub footer-spec : {M : Type 1} → statement M
 footer-spec =

@@ -1,5 +1,4 @@
 -- `footer::named` meets its contract. Assumes nothing.
-use mathlib.Core.Path.{_∙_}
 use borrow.Author.Needs.{needs}
 use Rattle.words.proofs.Chain.{new, kept, shares-kept, after, refused}
 use Rattle.footer.proofs.named.Statement.{statement}
@@ -15,10 +14,10 @@ enum-told : tie.Need-enum-told
 enum-told c = search needs
 
 same-length : tie.Need-same-length
-same-length c = c .before .before .before .before .before .before .comma .kept .1 .0
+same-length c = search needs
 
 same-length-2 : tie.Need-same-length-2
-same-length-2 c = c .before .before .before .before .before .before .comma .kept .1 .1 .0
+same-length-2 c = search needs
 
 returns : tie.Need-returns
 returns c = λ s. refused (c .enum-told .given .1)
@@ -33,16 +32,10 @@ enum-told-2 : tie.Need-enum-told-2
 enum-told-2 c = search needs
 
 same-length-3 : tie.Need-same-length-3
-same-length-3 c =
-    let at6 = c .before .before .before .before .before .before in
-    let at16 = at6 .before .before .before .before .before .before .before .before .before .before in
-    at6 .notes .kept .1 .0 ∙ at16 .comma .kept .1 .0
+same-length-3 c = search needs
 
 same-length-4 : tie.Need-same-length-4
-same-length-4 c =
-    let at6 = c .before .before .before .before .before .before in
-    let at16 = at6 .before .before .before .before .before .before .before .before .before .before in
-    at6 .notes .kept .1 .1 .0 ∙ at16 .comma .kept .1 .1 .0
+same-length-4 c = search needs
 
 returns-2 : tie.Need-returns-2
 returns-2 c = λ s. refused (c .enum-told2 .given .1)
@@ -51,27 +44,22 @@ blocked-requires : tie.Need-blocked-requires
 blocked-requires c κs = tt
 
 same-length-5 : tie.Need-same-length-5
-same-length-5 c =
-    let at4 = c .before .before .before .before in
-    let at14 = at4 .before .before .before .before .before .before .before .before .before .before in
-    let at24 = at14 .before .before .before .before .before .before .before .before .before .before in
-    at4 .blocked .kept .1 .0 ∙ at14 .notes .kept .1 .0 ∙ at24 .comma .kept .1 .0
+same-length-5 c = search needs
 
 same-length-6 : tie.Need-same-length-6
-same-length-6 c =
-    let at4 = c .before .before .before .before in
-    let at14 = at4 .before .before .before .before .before .before .before .before .before .before in
-    let at24 = at14 .before .before .before .before .before .before .before .before .before .before in
-    at4 .blocked .kept .1 .1 .0 ∙ at14 .notes .kept .1 .1 .0 ∙ at24 .comma .kept .1 .1 .0
+same-length-6 c = search needs
 
 returns-3 : tie.Need-returns-3
 returns-3 c =
-    let at4 = c .before .before .before .before in
-    let at8 = at4 .before .before .before .before in
-    let at14 = at8 .before .before .before .before .before .before in
-    let at18 = at14 .before .before .before .before in
-    let at24 = at18 .before .before .before .before .before .before in
-    λ s. after (at24 .comma .ensures (s .softline)) (at18 .made .given .1) (λ b. after (at14 .notes .ensures (kept b (s .none)) (new b)) (at8 .made2 .given .1) (λ q. at4 .blocked .ensures _ (shares-kept q (shares-kept b s)) (new q)))
+    let after-blocked = c .before .before .before .before in
+    let after-made2 = after-blocked .before .before .before .before in
+    let after-notes = after-made2 .before .before .before .before .before .before in
+    let after-made = after-notes .before .before .before .before in
+    λ s.
+    after
+    (after-made .before .before .before .before .before .before .comma .ensures (s .softline))
+    (after-made .made .given .1)
+    (λ b. after (after-notes .notes .ensures (kept b (s .none)) (new b)) (after-made2 .made2 .given .1) (λ q. after-blocked .blocked .ensures _ (shares-kept q (shares-kept b s)) (new q)))
 
 pub named-spec : {M : Type 1} → statement M
 named-spec =

@@ -2,15 +2,14 @@
 use borrow.Author.Needs.{needs}
 use native.Mathlib.Omega.{arith}
 use Prim.Native.Nat.{_-_}
-use mathlib.Core.Path.{_≡_, _∙_}
+use mathlib.Core.Path.{_≡_}
 use mathlib.Core.List.{map}
 use lib.ListN.{length, drop}
 use Rattle.table.specs.Document.{nil}
 use Rattle.build.specs.Documents.{intersperseDoc}
-use Rattle.pallets.specs.Lines.{lines}
-use Rattle.pallets.specs.Pallets.{between}
-use Rattle.tolerance.specs.Standing.{outNotes}
-use Rattle.tolerance.proofs.Walking.{first-of}
+use Rattle.buffer.specs.Parts.{lines, between}
+use Rattle.results.specs.Standing.{outNotes}
+use Rattle.results.proofs.Walking.{first-of}
 use Rattle.words.specs.Documents.{leafDoc}
 use Rattle.footer.specs.Documents.{commaDoc}
 use Rattle.words.specs.Build.{Is}
@@ -22,7 +21,11 @@ use Rattle.footer.proofs.notes.Tie as tie
 
 abbrev Inv-loop : tie.InvT-loop
 Inv-loop table₀ text₀ comma input c₀ n₀ between₀ at₀ table text c n between at =
-    (length table ≡ length table₀) × (length text ≡ length text₀) × (Is c₀ table₀ text₀ n₀ nil → Is c₀ table₀ text₀ comma commaDoc → Adding c₀ table₀ text₀ commaDoc (intersperseDoc (map leafDoc (outNotes (lines input))) commaDoc) (outNotes (lines (drop at input))) c table text n between)
+    (length table ≡ length table₀)
+    ×
+    (length text ≡ length text₀)
+    ×
+    (Is c₀ table₀ text₀ n₀ nil → Is c₀ table₀ text₀ comma commaDoc → Adding c₀ table₀ text₀ commaDoc (intersperseDoc (map leafDoc (outNotes (lines input))) commaDoc) (outNotes (lines (drop at input))) c table text n between)
 
 abbrev μ-loop : tie.MeasureT-loop
 μ-loop table₀ text₀ comma input c₀ n₀ between₀ at₀ table text c n between at = length input - at
@@ -43,43 +46,32 @@ enum-told : tie.Need-enum-told Inv-loop μ-loop
 enum-told c = search needs
 
 same-length : tie.Need-same-length Inv-loop μ-loop
-same-length c = c .before .before .before .before .loop .inv .0
+same-length c = search needs
 
 same-length-2 : tie.Need-same-length-2 Inv-loop μ-loop
-same-length-2 c = c .before .before .before .before .loop .inv .1
+same-length-2 c = search needs
 
 returns : tie.Need-returns Inv-loop μ-loop
 returns c =
-    let at2 = c .before .before in
-    let at4 = at2 .before .before in
-    let start = at4 .before .before .before .before in
-    λ i j. all-added (at4 .loop .inv .2 i j) (no-more (start .args .input .now) (at4 .loop .at) (c .enum-told .given .1) (at2 .next-out .ensures .1))
+    let after-next-out = c .before .before in
+    let turn = after-next-out .before .before in
+    λ i j. all-added (turn .loop .inv .2 i j) (no-more _ _ (c .enum-told .given .1) (after-next-out .next-out .ensures .1))
 
 sub-add-word : tie.Need-sub-add-word Inv-loop μ-loop
 sub-add-word c =
-    let at3 = c .before .before .before in
-    let at5 = at3 .before .before in
-    let at7 = at5 .before .before in
-    let start = at7 .before .before .before .before in
-    let f = first-of (start .args .input .now) (at7 .loop .at) (at3 .next .given .1) (at5 .next-out .ensures .1) in
+    let after-next = c .before .before .before in
+    let after-next-out = after-next .before .before in
+    let f = first-of _ _ (after-next .next .given .1) (after-next-out .next-out .ensures .1) in
     omega (arith, f .note)
 
 part-add-word-start : tie.Need-part-add-word-start Inv-loop μ-loop
-part-add-word-start c =
-    let at3 = c .before .before .before in
-    let at5 = at3 .before .before in
-    let at7 = at5 .before .before in
-    let start = at7 .before .before .before .before in
-    let f = first-of (start .args .input .now) (at7 .loop .at) (at3 .next .given .1) (at5 .next-out .ensures .1) in
-    omega (arith, f .note)
+part-add-word-start c = omega (arith, sub-add-word c)
 
 part-add-word-end : tie.Need-part-add-word-end Inv-loop μ-loop
 part-add-word-end c =
-    let at3 = c .before .before .before in
-    let at5 = at3 .before .before in
-    let at7 = at5 .before .before in
-    let start = at7 .before .before .before .before in
-    let f = first-of (start .args .input .now) (at7 .loop .at) (at3 .next .given .1) (at5 .next-out .ensures .1) in
+    let after-next = c .before .before .before in
+    let after-next-out = after-next .before .before in
+    let f = first-of _ _ (after-next .next .given .1) (after-next-out .next-out .ensures .1) in
     omega (arith, f .line, f .inside)
 
 add-word-requires : tie.Need-add-word-requires Inv-loop μ-loop
@@ -92,58 +84,47 @@ enum-told-2 : tie.Need-enum-told-2 Inv-loop μ-loop
 enum-told-2 c = search needs
 
 same-length-3 : tie.Need-same-length-3 Inv-loop μ-loop
-same-length-3 c =
-    let at6 = c .before .before .before .before .before .before in
-    let at15 = at6 .before .before .before .before .before .before .before .before .before in
-    at6 .add-word .kept .1 .0 ∙ at15 .loop .inv .0
+same-length-3 c = search needs
 
 same-length-4 : tie.Need-same-length-4 Inv-loop μ-loop
-same-length-4 c =
-    let at6 = c .before .before .before .before .before .before in
-    let at15 = at6 .before .before .before .before .before .before .before .before .before in
-    at6 .add-word .kept .1 .1 .0 ∙ at15 .loop .inv .1
+same-length-4 c = search needs
 
 returns-2 : tie.Need-returns-2 Inv-loop μ-loop
 returns-2 c = λ i j. refused (c .enum-told2 .given .1)
 
 add-at : tie.Need-add-at Inv-loop μ-loop
 add-at c =
-    let at12 = c .before .before .before .before .before .before .before .before .before .before .before .before in
-    let at14 = at12 .before .before in
-    let at16 = at14 .before .before in
-    let start = at16 .before .before .before .before in
-    let f = first-of (start .args .input .now) (at16 .loop .at) (at12 .next .given .1) (at14 .next-out .ensures .1) in
+    let after-next = c .before .before .before .before .before .before .before .before .before .before .before .before in
+    let after-next-out = after-next .before .before in
+    let f = first-of _ _ (after-next .next .given .1) (after-next-out .next-out .ensures .1) in
+    let start = after-next-out .before .before .before .before .before .before in
     omega (arith, f .inside, start .good .1 .1 .1 .1 .1 .0)
 
 loop-less : tie.Need-loop-less Inv-loop μ-loop
 loop-less c =
-    let at12 = c .before .before .before .before .before .before .before .before .before .before .before .before in
-    let at14 = at12 .before .before in
-    let at16 = at14 .before .before in
-    let start = at16 .before .before .before .before in
-    let f = first-of (start .args .input .now) (at16 .loop .at) (at12 .next .given .1) (at14 .next-out .ensures .1) in
+    let after-next = c .before .before .before .before .before .before .before .before .before .before .before .before in
+    let after-next-out = after-next .before .before in
+    let f = first-of _ _ (after-next .next .given .1) (after-next-out .next-out .ensures .1) in
     omega (arith, f .ahead, f .note, f .line)
 
 loop-again : tie.Need-loop-again Inv-loop μ-loop
 loop-again c =
-    let at7 = c .before .before .before .before .before .before .before in
-    let at12 = at7 .before .before .before .before .before in
-    let at14 = at12 .before .before in
-    let at16 = at14 .before .before in
-    let start = at16 .before .before .before .before in
-    let f = first-of (start .args .input .now) (at16 .loop .at) (at12 .next .given .1) (at14 .next-out .ensures .1) in
-    (search needs, search needs, λ i j. one-added (at16 .loop .inv .2 i j) _ _ (f .names) (at7 .add-word .ensures) (c .before .made .given .1) j)
+    let after-add-word = c .before .before .before .before .before .before .before in
+    let after-next = after-add-word .before .before .before .before .before in
+    let after-next-out = after-next .before .before in
+    let turn = after-next-out .before .before in
+    let f = first-of _ _ (after-next .next .given .1) (after-next-out .next-out .ensures .1) in
+    (search needs, search needs, λ i j. one-added (turn .loop .inv .2 i j) _ _ (f .names) (after-add-word .add-word .ensures) (c .before .made .given .1) j)
 
 same-length-5 : tie.Need-same-length-5 Inv-loop μ-loop
-same-length-5 c = c .before .loop .inv .0
+same-length-5 c = search needs
 
 same-length-6 : tie.Need-same-length-6 Inv-loop μ-loop
-same-length-6 c = c .before .loop .inv .1
+same-length-6 c = search needs
 
 returns-3 : tie.Need-returns-3 Inv-loop μ-loop
 returns-3 c =
-    let start = c .before .before .before .before .before in
-    λ i j. all-added (c .before .loop .inv .2 i j) (no-notes (start .args .input .now) (c .before .loop .at) (omega arith))
+    λ i j. all-added (c .before .loop .inv .2 i j) (no-notes _ (c .before .loop .at) (omega arith))
 
 pub notes-spec : {M : Type 1} → statement M
 notes-spec =

@@ -33,12 +33,11 @@ slice-write-out : tie.Need-slice-write-out Inv-loop μ-loop
 slice-write-out c = omega arith
 
 same-length : tie.Need-same-length Inv-loop μ-loop
-same-length c = simp length-set (omega arith)
+same-length c = search needs
 
 returns : tie.Need-returns Inv-loop μ-loop
 returns c =
-    let at2 = c .before .before in
-    let L = at2 .loop in
+    let L = c .before .before .loop in
     digit-here (L .out) (L .at) (48 + L .n % 10) (omega arith) (omega arith) ∙ sym (digit-last (L .at) (L .n) (drop (L .at) (L .out)) (omega arith) (c .if1 .taken)) ∙ L .inv .2
 
 loop-less : tie.Need-loop-less Inv-loop μ-loop
@@ -46,12 +45,14 @@ loop-less c = omega arith
 
 loop-again : tie.Need-loop-again Inv-loop μ-loop
 loop-again c =
-    let at2 = c .before .before in
-    let L = at2 .loop in
-    (simp length-set (omega arith), simp length-set (omega arith), ap (digitsOn (L .at - 1) (L .n / 10)) (digit-here (L .out) (L .at) (48 + L .n % 10) (omega arith) (omega arith)) ∙ sym (digit-more (L .at) (L .n) (drop (L .at) (L .out)) (omega arith) (c .if1 .left)) ∙ L .inv .2)
+    let L = c .before .before .loop in (
+      simp length-set (omega arith),
+      simp length-set (omega arith),
+      ap (digitsOn (L .at - 1) (L .n / 10)) (digit-here (L .out) (L .at) (48 + L .n % 10) (omega arith) (omega arith)) ∙ sym (digit-more (L .at) (L .n) (drop (L .at) (L .out)) (omega arith) (c .if1 .left)) ∙ L .inv .2,
+    )
 
 same-length-2 : tie.Need-same-length-2 Inv-loop μ-loop
-same-length-2 c = omega arith
+same-length-2 c = search needs
 
 returns-2 : tie.Need-returns-2 Inv-loop μ-loop
 returns-2 c = let L = c .before .loop in no-digits (L .at) (L .n) (drop (L .at) (L .out)) (omega arith) ∙ L .inv .2

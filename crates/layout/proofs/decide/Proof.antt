@@ -1,12 +1,45 @@
 -- `layout::decide` meets its contract: the sizes, then the table's fault, then the run.
 -- Assumes nothing.
 use borrow.Author.Tests.{not-true, not-false}
-use Rattle.layout.proofs.Whole.{sizes-decided, fault-decided, nodes-small, start-of, run-decided}
 use borrow.Author.Needs.{needs}
 use native.Mathlib.Omega.{arith}
-use mathlib.Core.Path.{sym, _∙_}
+use mathlib.Core.Path.{_≡_, sym, _∙_}
+use mathlib.Core.Bool.{true}
+use Rattle.table.specs.Fault.{check}
+use Rattle.rules.specs.Call.{buffersRight}
+use Rattle.layout.proofs.Whole.{Lent, asks, sizes-decided, fault-decided, nodes-small, start-of, run-decided}
 use Rattle.layout.proofs.decide.Statement.{statement}
 use Rattle.layout.proofs.decide.Tie as tie
+
+-- ---- what is known at the places
+
+abbrev lent-at : tie.After-buffers-right → Lent
+lent-at c =
+    let a = c .before .before .before .before .before .before .args in
+    record { table = a .table .now; text = a .text .now; width = a .width; limit = a .limit; out = a .out .now; noted = a .events .now; area = a .work .now }
+
+-- past the first test the sizes are right
+right : (c : tie.Else1) → buffersRight (asks (lent-at (c .before))) ≡ true
+right c = sym (c .before .buffers-right .ensures) ∙ not-false _ (c .if1 .left)
+
+abbrev validated : tie.Else2 → tie.After-validate
+validated c = c .before .before .before
+
+abbrev lent-to-run : tie.Else2 → Lent
+lent-to-run c = lent-at (validated c .before .before)
+
+-- past the second the table has no fault
+sound : (c : tie.Else2) → check (lent-to-run c .table) (lent-to-run c .text) .answer ≡ 0
+sound c = sym (validated c .validate .ensures .0) ∙ c .if2 .left
+
+-- where the run has ended
+abbrev run : tie.After-struct-known2 → tie.After-best
+run c = c .before .before .before .before .before .before .before .before
+
+abbrev before-run : tie.After-struct-known2 → tie.Else2
+before-run c = run c .before .before .before .before
+
+-- ---- the needs
 
 buffers-right-requires : tie.Need-buffers-right-requires
 buffers-right-requires c κs = search needs
@@ -15,7 +48,9 @@ refused-requires : tie.Need-refused-requires
 refused-requires c κs = search needs
 
 returns : tie.Need-returns
-returns c = sizes-decided _ _ _ _ (sym (c .before .before .buffers-right .ensures) ∙ not-true _ (c .before .if1 .taken)) (c .refused .ensures)
+returns c =
+    let refusing = c .before in
+    sizes-decided (sym (refusing .before .buffers-right .ensures) ∙ not-true _ (refusing .if1 .taken)) (c .refused .ensures)
 
 validate-requires : tie.Need-validate-requires
 validate-requires c κs = search needs
@@ -25,60 +60,34 @@ refused-requires-2 c κs = search needs
 
 returns-2 : tie.Need-returns-2
 returns-2 c =
-    let validated = c .before .before .before .before in
-    let right = validated .before in
-    fault-decided _ _ _ _ _ _ (sym (right .before .buffers-right .ensures) ∙ not-false _ (right .if1 .left)) (validated .validate .ensures)
-    (c .before .if2 .taken)
-    (c .refused2 .ensures)
+    let faulty = c .before in
+    let answered = faulty .before .before .before in
+    fault-decided _ _ (right (answered .before)) (answered .validate .ensures) (faulty .if2 .taken) (c .refused2 .ensures)
 
 cast-nodes : tie.Need-cast-nodes
-cast-nodes c =
-    let validated = c .before .before .before in
-    let right = validated .before in
-    let sized = right .before in
-    let start = sized .before .before .before .before .before .before .args in
-    let few =
-    nodes-small (start .table .now) (start .text .now) (start .out .now) (start .events .now) (start .work .now) (start .width) (start .limit)
-    (sym (sized .buffers-right .ensures) ∙ not-false _ (right .if1 .left))
-    (sym (validated .validate .ensures .0) ∙ c .if2 .left) in
-    omega arith
+cast-nodes c = omega (arith, nodes-small (lent-to-run c) (right (validated c .before)) (sound c))
 
 best-requires : tie.Need-best-requires
 best-requires c κs =
-    let tested = c .before .before .before in
-    let validated = tested .before .before .before in
-    let right = validated .before in
-    let sized = right .before in
-    let start = sized .before .before .before .before .before .before .args in
-    start-of (start .table .now) (start .text .now) (start .out .now) (start .events .now) (start .work .now) (start .width) (start .limit)
-    (sym (sized .buffers-right .ensures) ∙ not-false _ (right .if1 .left))
-    (sym (validated .validate .ensures .0) ∙ tested .if2 .left)
+    let at = c .before .before .before in
+    start-of (lent-to-run at) (right (validated at .before)) (sound at)
 
 sub-t25 : tie.Need-sub-t25
-sub-t25 c = omega (arith, c .before .before .before .before .before .before .before .before .best .ensures .left)
+sub-t25 c = omega (arith, run c .best .ensures .left)
 
 same-length : tie.Need-same-length
-same-length c = c .before .before .before .before .before .before .before .before .best .kept .1 .1 .0
+same-length c = run c .best .kept .1 .1 .0
 
 same-length-2 : tie.Need-same-length-2
-same-length-2 c = c .before .before .before .before .before .before .before .before .best .kept .1 .1 .1 .0
+same-length-2 c = run c .best .kept .1 .1 .1 .0
 
 same-length-3 : tie.Need-same-length-3
-same-length-3 c = c .before .before .before .before .before .before .before .before .best .kept .1 .1 .1 .1 .0
+same-length-3 c = run c .best .kept .1 .1 .1 .1 .0
 
 returns-3 : tie.Need-returns-3
 returns-3 c =
-    let run = c .before .before .before .before .before .before .before .before in
-    let tested = run .before .before .before .before in
-    let validated = tested .before .before .before in
-    let right = validated .before in
-    let sized = right .before in
-    let start = sized .before .before .before .before .before .before .args in
-    run-decided (start .table .now) (start .text .now) (start .out .now) (start .events .now) (start .work .now) (start .width) (start .limit)
-    (sym (sized .buffers-right .ensures) ∙ not-false _ (right .if1 .left))
-    (sym (validated .validate .ensures .0) ∙ tested .if2 .left)
-    _ _ _
-    (run .best .ensures)
+    let at = before-run c in
+    run-decided (lent-to-run at) (right (validated at .before)) (sound at) (run c .best .ensures)
 
 pub decide-spec : {M : Type 1} → statement M
 decide-spec =

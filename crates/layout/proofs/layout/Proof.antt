@@ -37,15 +37,20 @@ same-length-3 c = search needs
 
 returns : tie.Need-returns
 returns c =
-    let cleared = c .before .before in
-    let events = cleared .before .before .before .before in
-    let bytes = events .before .before .before .before in
-    let decided = bytes .before .before .before .before .before .before .before .before .before .before .decide in
-    let kept = decided .kept .1 .1 .1 .1 in
-    called _ _ _ _ _ (decided .last .1 .1 .1 .1 .1 .1 .0) _ _ _ (decided .ensures) (kept .0) (kept .1 .0) (kept .1 .1 .0)
-    (bytes .zero-bytes-from .ensures)
-    (events .zero-words-from .ensures)
-    (cleared .clear-dirty-words .ensures)
+    let worked = c .before .before in
+    let noted = worked .before .before .before .before in
+    let wrote = noted .before .before .before .before in
+    let decided = wrote .before .before .before .before .before .before .before .before .before .before .decide in
+    let lengths = decided .kept .1 .1 .1 .1 in
+    called
+    (decided .last .1 .1 .1 .1 .1 .1 .0)
+    (decided .ensures)
+    (lengths .0)
+    (lengths .1 .0)
+    (lengths .1 .1 .0)
+    (wrote .zero-bytes-from .ensures)
+    (noted .zero-words-from .ensures)
+    (worked .clear-dirty-words .ensures)
 
 pub layout-spec : {M : Type 1} → statement M
 layout-spec =

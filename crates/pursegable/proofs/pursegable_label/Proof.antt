@@ -3,6 +3,7 @@
 use contract.Running.{givenOf, tables, tablesOf}
 use denote.Triple.Spec.{tripleOf}
 use denote.Triple.Table.{entered, cited}
+use Rattle.layout.specs.Called.{labelWidth}
 use Rattle.pursegable.proofs.Defaults.{Layout, meets}
 use Rattle.pursegable.proofs.pursegable_layout.Symbol as lay-def
 use Rattle.pursegable.proofs.pursegable_layout.Symbol.{name as #pursegable·pursegable-layout}
@@ -17,5 +18,5 @@ unfolding code.routine tablesOf
 pursegable-label-spec 𝓤 H 𝓜 𝓖 𝓡 =
     entered 𝓤 H (tripleOf 𝓤 H (𝓖 .A) f.signature (f.spec 𝓤 H (𝓖 .A) (𝓜 .mem) (𝓡 .run)))
     (tables 𝓤 H 𝓜 𝓡 code.env .C) (tables 𝓤 H 𝓜 𝓡 code.env .Λ) #pursegable·pursegable-label code.function (code.unfolded 𝓤 H 𝓜 𝓡)
-    (meets 𝓤 H (𝓖 .A) (givenOf 𝓤 H 𝓜 𝓖) (𝓜 .mem) (𝓡 .run) (tablesOf 𝓤 H 𝓜 (tables 𝓤 H 𝓜 𝓡 code.env))
+    (meets labelWidth tt 𝓤 H (𝓖 .A) (givenOf 𝓤 H 𝓜 𝓖) (𝓜 .mem) (𝓡 .run) (tablesOf 𝓤 H 𝓜 (tables 𝓤 H 𝓜 𝓡 code.env))
     (cited 𝓤 H (Layout 𝓤 H (𝓖 .A) (𝓜 .mem) (𝓡 .run)) 𝓜 𝓡 code.env #pursegable·pursegable-layout lay-def.routine code.calls-pursegable·pursegable-layout (lay-thm.met 𝓤 H 𝓜 𝓖 𝓡)))

@@ -2,8 +2,8 @@
 -- Assumes nothing.
 use borrow.Author.Needs.{needs}
 use lib.ListN.{length}
-use Rattle.layout.specs.Called.{given}
-use Rattle.pursegable.proofs.Answering.{words-exported}
+use Rattle.layout.specs.Called.{lent, asWords}
+use Rattle.pursegable.proofs.Answering.{exported}
 use Rattle.pursegable.proofs.pursegable_layout_words.Statement.{statement}
 use Rattle.pursegable.proofs.pursegable_layout_words.Tie as tie
 
@@ -30,11 +30,14 @@ same-length-4 c = search needs
 
 returns : tie.Need-returns
 returns c =
-    let a = c .before .before .before .before .before .before .before .before .before .before .before .before .before .before .before .before .before .before .before .before .before .args in
-    words-exported
-    (given (a .table .now) (a .text .now) (a .width) (a .limit) (length (a .out .now)) (length (a .events .now)) (length (a .work .now)))
-    (length (a .report .now)) (length (a .events .now)) _ _ _ _ _ _
-    (c .before .before .before .before .before .before .before .before .before .before .before .before .before .before .limit-for .ensures) (c .before .before .before .before .before .before .before .before .before .before .layout .ensures) (c .before .before .tell .ensures)
+    let telling = c .before .before in
+    let laid = telling .before .before .before .before .before .before .before .before in
+    let limited = laid .before .before .before .before in
+    let a = limited .before .before .before .before .before .before .before .args in
+    exported asWords
+    (lent (a .table .now) (a .text .now) (a .width) (a .limit) (a .out .now) (a .events .now) (a .work .now))
+    (length (a .report .now)) (length (a .events .now)) _
+    (limited .limit-for .ensures) (laid .layout .ensures) (telling .tell .ensures)
 
 pub pursegable-layout-words-spec : {M : Type 1} → statement M
 pursegable-layout-words-spec =

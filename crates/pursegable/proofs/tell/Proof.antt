@@ -2,8 +2,8 @@
 -- Assumes nothing.
 use borrow.Author.Needs.{needs}
 use native.Mathlib.Omega.{arith}
-use mathlib.Core.List.{[], _∷_}
 use lib.ListN.{length, length-set}
+use Rattle.pursegable.specs.Exported.{fiveOf}
 use Rattle.pursegable.proofs.Answering.{told-none, told-set}
 use Rattle.pursegable.proofs.tell.Statement.{statement}
 use Rattle.pursegable.proofs.tell.Tie as tie
@@ -16,9 +16,9 @@ same-length c = search needs
 
 returns : tie.Need-returns
 returns c =
-    let at3 = c .before .before .before in
-    let start = at3 .before .before .before in
-    told-none _ (length (start .args .report .now)) (start .args .r .answer ∷ start .args .r .place .0 ∷ start .args .r .steps ∷ start .args .r .used ∷ start .args .r .marks ∷ []) (at3 .clear-words .ensures) (c .if1 .taken)
+    let cleared = c .before .before .before in
+    let a = cleared .before .before .before .args in
+    told-none _ (length (a .report .now)) (fiveOf (a .r)) (cleared .clear-words .ensures) (c .if1 .taken)
 
 slice-write-report : tie.Need-slice-write-report
 slice-write-report c = search needs
@@ -40,9 +40,8 @@ same-length-2 c = search needs
 
 returns-2 : tie.Need-returns-2
 returns-2 c =
-    let at4 = c .before .before .before .before in
-    let start = at4 .before .before .before in
-    told-set _ (length (start .args .report .now)) _ _ _ _ _ (at4 .clear-words .ensures) (c .before .if1 .left)
+    let cleared = c .before .before .before .before in
+    told-set _ (length (cleared .before .before .before .args .report .now)) _ _ _ _ _ (cleared .clear-words .ensures) (c .before .if1 .left)
 
 pub tell-spec : {M : Type 1} → statement M
 tell-spec =

@@ -1,9 +1,7 @@
 -- `row::put_row` meets its contract. Assumes nothing.
 use borrow.Author.Needs.{needs}
 use native.Mathlib.Omega.{arith}
-use Prim.Native.Nat.{ℕ, _-_}
-use mathlib.Core.Path.{ap, _∙_}
-use Rattle.words.proofs.Placing.{placed-length}
+use Rattle.buffer.proofs.Placing.{placed-length}
 use Rattle.row.proofs.Columns.{fields-add}
 use Rattle.row.proofs.put_row.Statement.{statement}
 use Rattle.row.proofs.put_row.Tie as tie
@@ -33,7 +31,9 @@ slice-aggregate-put-field : tie.Need-slice-aggregate-put-field
 slice-aggregate-put-field c = search needs
 
 put-field-requires : tie.Need-put-field-requires
-put-field-requires c κs = search needs
+put-field-requires c κs =
+    let passed = c .before .before .before in
+    omega (arith, passed .further .ensures, placed-length (passed .before .before .before .before .put .ensures) (omega arith) .1)
 
 behind-requires-2 : tie.Need-behind-requires-2
 behind-requires-2 c κs = tt
@@ -49,19 +49,30 @@ same-length c = search needs
 
 returns : tie.Need-returns
 returns c =
-    let at2 = c .before .before in
-    let at4 = at2 .before .before in
-    let at8 = at4 .before .before .before .before in
-    let at10 = at8 .before .before in
-    let at12 = at10 .before .before in
-    let at16 = at12 .before .before .before .before in
-    let at18 = at16 .before .before in
-    let at19 = at18 .before in
-    let at20 = at19 .before in
-    let at21 = at20 .before in
-    let start = at21 .before .before .before in
-    let a = start .args in
-    fields-add (a .out .now) (a .line .now) (a .p) (at21 .part-end .result) (at21 .part-end .ensures) _ (at20 .front .ensures) (at18 .missing .result) (at18 .missing .ensures ∙ ap (λ (k : ℕ). 6 - k) (at19 .columns .ensures)) (at16 .put .ensures) (at12 .further .result) (at12 .further .ensures .0) _ (at10 .behind .ensures) _ (at8 .put-field .result) (at8 .put-field .kept .0) (at8 .put-field .ensures .0) _ (at4 .behind2 .ensures) _ (at2 .put-field2 .result) (at2 .put-field2 .ensures .0)
+    let after-put-field2 = c .before .before in
+    let after-behind2 = after-put-field2 .before .before in
+    let after-put-field = after-behind2 .before .before .before .before in
+    let after-behind = after-put-field .before .before in
+    let after-further = after-behind .before .before in
+    let after-put = after-further .before .before .before .before in
+    let after-missing = after-put .before .before in
+    let after-columns = after-missing .before in
+    let after-front = after-columns .before in
+    let after-part-end = after-front .before in
+    fields-add
+    _
+    _
+    (after-part-end .part-end .ensures)
+    (after-front .front .ensures)
+    (after-columns .columns .ensures)
+    (after-missing .missing .ensures)
+    (after-put .put .ensures)
+    (after-further .further .ensures)
+    (after-behind .behind .ensures)
+    (after-put-field .put-field .kept .0)
+    (after-put-field .put-field .ensures .0)
+    (after-behind2 .behind2 .ensures)
+    (after-put-field2 .put-field2 .ensures .0)
 
 pub put-row-spec : {M : Type 1} → statement M
 put-row-spec =

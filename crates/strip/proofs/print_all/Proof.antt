@@ -1,7 +1,5 @@
 -- `strip::print_all` is safe and ends. Assumes nothing.
-use Rattle.pallets.proofs.Saying.{part-within}
 use borrow.Author.Needs.{needs}
-use native.Mathlib.Omega.{arith}
 use Prim.Native.Nat.{_-_, _≤_}
 use lib.ListN.{length}
 use Rattle.strip.proofs.print_all.Statement.{statement}
@@ -16,8 +14,8 @@ abbrev μ-loop : tie.MeasureT-loop
 loop-holds : tie.Need-loop-holds Inv-loop μ-loop
 loop-holds c = search needs
 
-part-end-requires : tie.Need-part-end-requires Inv-loop μ-loop
-part-end-requires c κs = search needs
+line-end-requires : tie.Need-line-end-requires Inv-loop μ-loop
+line-end-requires c κs = search needs
 
 sub-print-line : tie.Need-sub-print-line Inv-loop μ-loop
 sub-print-line c = search needs
@@ -26,10 +24,7 @@ part-print-line-start : tie.Need-part-print-line-start Inv-loop μ-loop
 part-print-line-start c = search needs
 
 part-print-line-end : tie.Need-part-print-line-end Inv-loop μ-loop
-part-print-line-end c =
-    let at2 = c .before .before in
-    let start = at2 .before .before .before in
-    omega (arith, part-within (start .args .out .now) (at2 .loop .at) 10 (omega arith), c .part-end .ensures)
+part-print-line-end c = search needs
 
 marked-requires : tie.Need-marked-requires Inv-loop μ-loop
 marked-requires c κs = search needs
@@ -62,7 +57,7 @@ print-all-spec =
     Inv-loop
     μ-loop
     loop-holds
-    part-end-requires
+    line-end-requires
     sub-print-line
     part-print-line-start
     part-print-line-end

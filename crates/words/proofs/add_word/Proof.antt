@@ -1,5 +1,4 @@
 -- `words::add_word` meets its contract. Assumes nothing.
-use mathlib.Core.Path.{refl, _∙_}
 use borrow.Author.Needs.{needs}
 use Rattle.words.proofs.Chain.{new, kept, after, refused, appends}
 use Rattle.words.proofs.add_word.Statement.{statement}
@@ -15,10 +14,10 @@ enum-told : tie.Need-enum-told
 enum-told c = search needs
 
 same-length : tie.Need-same-length
-same-length c = c .before .before .before .before .append .kept .1 .0
+same-length c = search needs
 
 same-length-2 : tie.Need-same-length-2
-same-length-2 c = refl
+same-length-2 c = search needs
 
 returns : tie.Need-returns
 returns c = λ d e i j. refused (c .enum-told .given .1)
@@ -33,13 +32,10 @@ enum-told-2 : tie.Need-enum-told-2
 enum-told-2 c = search needs
 
 same-length-3 : tie.Need-same-length-3
-same-length-3 c =
-    let at6 = c .before .before .before .before .before .before in
-    let at14 = at6 .before .before .before .before .before .before .before .before in
-    at6 .leaf .kept .1 .0 ∙ at14 .append .kept .1 .0
+same-length-3 c = search needs
 
 same-length-4 : tie.Need-same-length-4
-same-length-4 c = c .before .before .before .before .before .before .leaf .kept .1 .1 .0
+same-length-4 c = search needs
 
 returns-2 : tie.Need-returns-2
 returns-2 c = λ d e i j. refused (c .enum-told2 .given .1)
@@ -48,23 +44,22 @@ append-requires-2 : tie.Need-append-requires-2
 append-requires-2 c κs = tt
 
 same-length-5 : tie.Need-same-length-5
-same-length-5 c =
-    let at2 = c .before .before in
-    let at12 = at2 .before .before .before .before .before .before .before .before .before .before in
-    let at20 = at12 .before .before .before .before .before .before .before .before in
-    at2 .append2 .kept .1 .0 ∙ at12 .leaf .kept .1 .0 ∙ at20 .append .kept .1 .0
+same-length-5 c = search needs
 
 same-length-6 : tie.Need-same-length-6
-same-length-6 c = c .before .before .before .before .before .before .before .before .before .before .before .before .leaf .kept .1 .1 .0
+same-length-6 c = search needs
 
 returns-3 : tie.Need-returns-3
 returns-3 c =
-    let at2 = c .before .before in
-    let at6 = at2 .before .before .before .before in
-    let at12 = at6 .before .before .before .before .before .before in
-    let at16 = at12 .before .before .before .before in
-    let at20 = at16 .before .before .before .before in
-    λ d e i j. after (appends i j (at20 .append .ensures)) (at16 .made .given .1) (λ b. after (at12 .leaf .ensures) (at6 .made2 .given .1) (λ w. appends (kept w (new b)) (new w) (at2 .append2 .ensures)))
+    let after-append2 = c .before .before in
+    let after-made2 = after-append2 .before .before .before .before in
+    let after-leaf = after-made2 .before .before .before .before .before .before in
+    let after-made = after-leaf .before .before .before .before in
+    λ d e i j.
+    after
+    (appends i j (after-made .before .before .before .before .append .ensures))
+    (after-made .made .given .1)
+    (λ b. after (after-leaf .leaf .ensures) (after-made2 .made2 .given .1) (λ w. appends (kept w (new b)) (new w) (after-append2 .append2 .ensures)))
 
 pub add-word-spec : {M : Type 1} → statement M
 add-word-spec =

@@ -7,7 +7,7 @@ use lib.ListN.{length, take, drop, length-drop}
 use lib.Seq.{length-take-le}
 use Rattle.words.specs.Words.{together}
 use Rattle.words.proofs.Chain.{refused}
-use Rattle.words.proofs.Cutting.{rest-is}
+use Rattle.buffer.proofs.Reading.{rest-is}
 use Rattle.words.proofs.Filling.{Filling, fill-start, fill-next, fill-end}
 use Rattle.words.proofs.filled.Statement.{statement}
 use Rattle.words.proofs.filled.Tie as tie
@@ -39,19 +39,19 @@ part-together-end c = omega arith
 
 together-requires : tie.Need-together-requires Inv-loop μ-loop
 together-requires c κs =
-    let at2 = c .before .before in
-    let start = at2 .before .before .before .before .before .before .before in
+    let turn = c .before .before in
+    let start = turn .before .before .before .before .before .before .before in
     let s = start .args .s .now in
-    let L = at2 .loop in
+    let L = turn .loop in
     let room : length (take (length s - L .at) (drop (L .at) s)) ≡ length s - L .at = length-take-le (length s - L .at) (drop (L .at) s) (simp length-drop (omega arith)) in
     omega arith
 
 add-end : tie.Need-add-end Inv-loop μ-loop
 add-end c =
-    let at3 = c .before .before .before in
-    let start = at3 .before .before .before .before .before .before .before in
+    let turn = c .before .before .before in
+    let start = turn .before .before .before .before .before .before .before in
     let s = start .args .s .now in
-    let L = at3 .loop in
+    let L = turn .loop in
     let room : length (take (length s - L .at) (drop (L .at) s)) ≡ length s - L .at = length-take-le (length s - L .at) (drop (L .at) s) (simp length-drop (omega arith)) in
     omega (arith, c .together .ensures .2)
 
@@ -63,13 +63,13 @@ part-add-word-start c = omega arith
 
 part-add-word-end : tie.Need-part-add-word-end Inv-loop μ-loop
 part-add-word-end c =
-    let at2 = c .before .before in
-    let at5 = at2 .before .before .before in
-    let start = at5 .before .before .before .before .before .before .before in
+    let after-together = c .before .before in
+    let turn = after-together .before .before .before in
+    let start = turn .before .before .before .before .before .before .before in
     let s = start .args .s .now in
-    let L = at5 .loop in
+    let L = turn .loop in
     let room : length (take (length s - L .at) (drop (L .at) s)) ≡ length s - L .at = length-take-le (length s - L .at) (drop (L .at) s) (simp length-drop (omega arith)) in
-    omega (arith, at2 .together .ensures .2)
+    omega (arith, after-together .together .ensures .2)
 
 add-word-requires : tie.Need-add-word-requires Inv-loop μ-loop
 add-word-requires c κs = tt
@@ -81,16 +81,10 @@ enum-told : tie.Need-enum-told Inv-loop μ-loop
 enum-told c = search needs
 
 same-length : tie.Need-same-length Inv-loop μ-loop
-same-length c =
-    let at6 = c .before .before .before .before .before .before in
-    let at13 = at6 .before .before .before .before .before .before .before in
-    at6 .add-word .kept .1 .0 ∙ at13 .loop .inv .0
+same-length c = search needs
 
 same-length-2 : tie.Need-same-length-2 Inv-loop μ-loop
-same-length-2 c =
-    let at6 = c .before .before .before .before .before .before in
-    let at13 = at6 .before .before .before .before .before .before .before in
-    at6 .add-word .kept .1 .1 .0 ∙ at13 .loop .inv .1
+same-length-2 c = search needs
 
 returns : tie.Need-returns Inv-loop μ-loop
 returns c = λ i. refused (c .enum-told .given .1)
@@ -100,29 +94,28 @@ skip-requires-2 c κs = tt
 
 loop-less : tie.Need-loop-less Inv-loop μ-loop
 loop-less c =
-    let at12 = c .before .before .before .before .before .before .before .before .before .before .before .before in
-    omega (arith, at12 .together .ensures .1, c .skip2 .ensures)
+    omega (arith, c .before .before .before .before .before .before .before .before .before .before .before .before .together .ensures .1, c .skip2 .ensures)
 
 loop-again : tie.Need-loop-again Inv-loop μ-loop
 loop-again c =
-    let at2 = c .before .before in
-    let at8 = at2 .before .before .before .before .before .before in
-    let at12 = at8 .before .before .before .before in
-    let at15 = at12 .before .before .before in
-    let start = at15 .before .before .before .before .before .before .before in
-    let L = at15 .loop in
+    let after-made = c .before .before in
+    let after-add-word = after-made .before .before .before .before .before .before in
+    let after-together = after-add-word .before .before .before .before in
+    let turn = after-together .before .before .before in
+    let start = turn .before .before .before .before .before .before .before in
+    let L = turn .loop in
     let s = start .args .s .now in
     let most = start .args .most in
-    let size = at12 .together .result in
-    let is : size ≡ together most (drop (L .at) s) = at12 .together .ensures .0 ∙ ap (together most) (rest-is s (L .at)) in
-    let some : 0 < size = at12 .together .ensures .1 in
-    (search needs, search needs, fill-next (L .inv .2) size (c .skip2 .result) (omega arith) is some (c .skip2 .ensures) (at8 .add-word .ensures) (at2 .made .given .1))
+    let size = after-together .together .result in
+    let is : size ≡ together most (drop (L .at) s) = after-together .together .ensures .0 ∙ ap (together most) (rest-is s (L .at)) in
+    let some : 0 < size = after-together .together .ensures .1 in
+    (search needs, search needs, fill-next (L .inv .2) size (c .skip2 .result) (omega arith) is some (c .skip2 .ensures) (after-add-word .add-word .ensures) (after-made .made .given .1))
 
 same-length-3 : tie.Need-same-length-3 Inv-loop μ-loop
-same-length-3 c = c .before .loop .inv .0
+same-length-3 c = search needs
 
 same-length-4 : tie.Need-same-length-4 Inv-loop μ-loop
-same-length-4 c = c .before .loop .inv .1
+same-length-4 c = search needs
 
 returns-2 : tie.Need-returns-2 Inv-loop μ-loop
 returns-2 c = λ i. fill-end (c .before .loop .inv .2) (omega arith) (i .none) (i .softline)

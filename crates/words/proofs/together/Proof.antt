@@ -4,9 +4,10 @@ use Prim.Native.Nat.{_-_, _≤_, _<_}
 use mathlib.Core.Path.{_≡_, refl, sym, _∙_}
 use mathlib.Core.Bool.{false}
 use lib.ListN.{length, drop, getD}
-use Rattle.pallets.specs.Lines.{goesOn}
+use Rattle.buffer.specs.Parts.{goesOn}
 use Rattle.words.specs.Words.{togetherOn, together}
-use Rattle.words.proofs.Cutting.{starts-is, blank-after, goes-on, words-end, word-on, all-together, at-blank, at-none}
+use Rattle.buffer.proofs.Reading.{starts-is}
+use Rattle.words.proofs.Cutting.{blank-after, goes-on, words-end, word-on, all-together, at-blank, at-none}
 use Rattle.words.proofs.together.Statement.{statement}
 use Rattle.words.proofs.together.Tie as tie
 
@@ -30,9 +31,9 @@ loop-less c = omega arith
 
 loop-again : tie.Need-loop-again Inv-loop μ-loop
 loop-again c =
-    let at3 = c .before .before .before in
-    let start = at3 .before .before in
-    let L = at3 .loop in
+    let turn = c .before .before .before in
+    let start = turn .before .before in
+    let L = turn .loop in
     let s = start .args .s .now in
     let most = start .args .most in
     let b = getD s (L .i) 0 in
@@ -46,32 +47,42 @@ ends-requires c κs = tt
 
 returns : tie.Need-returns Inv-loop μ-loop
 returns c =
-    let at2 = c .before .before in
-    let at3 = at2 .before in
-    let at4 = at3 .before in
-    let at7 = at4 .before .before .before in
-    let start = at7 .before .before in
-    let L = at7 .loop in
+    let after-ends = c .before .before in
+    let after-last-blank = after-ends .before in
+    let after-if1 = after-last-blank .before in
+    let turn = after-if1 .before .before .before in
+    let start = turn .before .before in
+    let L = turn .loop in
     let s = start .args .s .now in
     let most = start .args .most in
     let b = getD s (L .i) 0 in
-    let g : goesOn b ≡ false = starts-is b ∙ at4 .if1 .left in
-    let last = blank-after b (L .i) (L .last) (omega arith) in
-    (at-blank _ (L .i) (c .if3 .taken) ∙ sym (words-end (start .args .most) (L .wide) (L .last) s (L .i) (omega arith) g (at3 .last-blank .result) (at3 .last-blank .ensures) (sym (c .before .if2 .taken) ∙ at2 .ends .ensures)) ∙ L .inv .4, omega arith, omega (arith, last, at3 .last-blank .ensures))
+    let g : goesOn b ≡ false = starts-is b ∙ after-if1 .if1 .left in
+    let last = blank-after b (L .i) (L .last) (omega arith) in (
+      at-blank _ (L .i) (c .if3 .taken)
+          ∙ sym (words-end (start .args .most) (L .wide) (L .last) s (L .i) (omega arith) g (after-last-blank .last-blank .result) (after-last-blank .last-blank .ensures) (sym (c .before .if2 .taken) ∙ after-ends .ends .ensures))
+          ∙ L .inv .4,
+      omega arith,
+      omega (arith, last, after-last-blank .last-blank .ensures),
+    )
 
 returns-2 : tie.Need-returns-2 Inv-loop μ-loop
 returns-2 c =
-    let at2 = c .before .before in
-    let at3 = at2 .before in
-    let at4 = at3 .before in
-    let at7 = at4 .before .before .before in
-    let start = at7 .before .before in
-    let L = at7 .loop in
+    let after-ends = c .before .before in
+    let after-last-blank = after-ends .before in
+    let after-if1 = after-last-blank .before in
+    let turn = after-if1 .before .before .before in
+    let start = turn .before .before in
+    let L = turn .loop in
     let s = start .args .s .now in
     let most = start .args .most in
     let b = getD s (L .i) 0 in
-    let g : goesOn b ≡ false = starts-is b ∙ at4 .if1 .left in
-    (at-none _ (L .i) (c .if3 .left) ∙ sym (words-end (start .args .most) (L .wide) (L .last) s (L .i) (omega arith) g (at3 .last-blank .result) (at3 .last-blank .ensures) (sym (c .before .if2 .taken) ∙ at2 .ends .ensures)) ∙ L .inv .4, omega arith, omega arith)
+    let g : goesOn b ≡ false = starts-is b ∙ after-if1 .if1 .left in (
+      at-none _ (L .i) (c .if3 .left)
+          ∙ sym (words-end (start .args .most) (L .wide) (L .last) s (L .i) (omega arith) g (after-last-blank .last-blank .result) (after-last-blank .last-blank .ensures) (sym (c .before .if2 .taken) ∙ after-ends .ends .ensures))
+          ∙ L .inv .4,
+      omega arith,
+      omega arith,
+    )
 
 add-wide : tie.Need-add-wide Inv-loop μ-loop
 add-wide c = omega arith
@@ -84,17 +95,22 @@ loop-less-2 c = omega arith
 
 loop-again-2 : tie.Need-loop-again-2 Inv-loop μ-loop
 loop-again-2 c =
-    let at2 = c .before .before in
-    let at3 = at2 .before in
-    let at6 = at3 .before .before .before in
-    let start = at6 .before .before in
-    let L = at6 .loop in
+    let after-last-blank = c .before .before in
+    let after-if1 = after-last-blank .before in
+    let turn = after-if1 .before .before .before in
+    let start = turn .before .before in
+    let L = turn .loop in
     let s = start .args .s .now in
     let most = start .args .most in
     let b = getD s (L .i) 0 in
-    let g : goesOn b ≡ false = starts-is b ∙ at3 .if1 .left in
-    let last = blank-after b (L .i) (L .last) (omega arith) in
-    (omega arith, omega arith, omega arith, omega (arith, last, at2 .last-blank .ensures), sym (word-on (start .args .most) (L .wide) (L .last) s (L .i) (omega arith) g (at2 .last-blank .result) (at2 .last-blank .ensures) (sym (c .if2 .left) ∙ c .before .ends .ensures)) ∙ L .inv .4)
+    let g : goesOn b ≡ false = starts-is b ∙ after-if1 .if1 .left in
+    let last = blank-after b (L .i) (L .last) (omega arith) in (
+      omega arith,
+      omega arith,
+      omega arith,
+      omega (arith, last, after-last-blank .last-blank .ensures),
+      sym (word-on (start .args .most) (L .wide) (L .last) s (L .i) (omega arith) g (after-last-blank .last-blank .result) (after-last-blank .last-blank .ensures) (sym (c .if2 .left) ∙ c .before .ends .ensures)) ∙ L .inv .4,
+    )
 
 returns-3 : tie.Need-returns-3 Inv-loop μ-loop
 returns-3 c =

@@ -9,7 +9,9 @@ sizes-right-requires : tie.Need-sizes-right-requires
 sizes-right-requires c κs = search needs
 
 within-requires : tie.Need-within-requires
-within-requires c κs = sym (c .before .before .sizes-right .ensures) ∙ c .before .if1 .taken
+within-requires c κs =
+    let then1 = c .before in
+    sym (then1 .before .sizes-right .ensures) ∙ then1 .if1 .taken
 
 same-length : tie.Need-same-length
 same-length c = search needs
@@ -17,10 +19,9 @@ same-length c = search needs
 returns : tie.Need-returns
 unfolding formatMade
 returns c =
-    let at2 = c .before .before in
-    let at4 = at2 .before .before in
-    let at5 = at4 .before in
-    rw (← (at5 .sizes-right .ensures), at4 .if1 .taken) (at2 .within .ensures)
+    let after-within = c .before .before in
+    let then1 = after-within .before .before in
+    rw (← (then1 .before .sizes-right .ensures), then1 .if1 .taken) (after-within .within .ensures)
 
 returns-2 : tie.Need-returns-2
 unfolding formatMade

@@ -1,22 +1,77 @@
 -- `alternative`, part by part.
 use borrow.Author.Needs.{needs}
-use mathlib.Core.Path.{sym, _∙_}
+use mathlib.Core.Path.{_∙_}
 use native.Mathlib.Omega.{arith}
-use lib.Seq.{length-take-le}
-use Rattle.block.proofs.Splits.{rest-all, split-asks₁, split-stop₁, split-asks₂, split-stop₂, split-asks₃, split-stop₃, split-asks₄, split-stop₄, split-last}
+use Rattle.block.proofs.Splits.{split-inside, front-length, AtFront, AtMiddle, AtWrapped, AtBack}
+use Rattle.block.proofs.Splits.{split-asks₁, split-stop₁, split-front, split-asks₂, split-stop₂, split-middle}
+use Rattle.block.proofs.Splits.{split-asks₃, split-stop₃, split-wrapped, split-asks₄, split-stop₄, split-back, split-last}
 use Rattle.block.proofs.parts.alternative.Statement.{statement}
 use Rattle.block.proofs.parts.alternative.Tie as tie
+
+-- back to earlier places
+abbrev start-of : tie.After-head → tie.Start
+start-of c = c .before .before .before .before .before .before .before .before
+
+abbrev head-of : tie.After-first → tie.After-head
+head-of c = c .before .before .before .before
+
+abbrev first-of : tie.After-bare → tie.After-first
+first-of c = c .before .before .before .before
+
+abbrev bare-of : tie.After-core → tie.After-bare
+bare-of c = c .before .before .before
+
+abbrev core-of : tie.After-second → tie.After-core
+core-of c = c .before .before .before .before
+
+abbrev second-of : tie.After-wraps → tie.After-second
+second-of c = c .before .before .before .before .before
+
+abbrev wraps-of : tie.After-third → tie.After-wraps
+wraps-of c = c .before .before .before .before
+
+abbrev third-of : tie.After-tail → tie.After-third
+third-of c = c .before .before .before .before
+
+abbrev tail-of : tie.After-fourth → tie.After-tail
+tail-of c = c .before .before .before .before
+
+-- what each part has built, where its answer is taken apart
+abbrev at-front : (c : tie.After-first) → let s = start-of (head-of c) in
+    AtFront (s .pre .0) (s .pre .1) (s .args .nests .now) (s .args .split)
+at-front c =
+    let s = start-of (head-of c) in
+    split-front (s .pre .0) (s .pre .1) (s .args .nests .now) (s .args .split) (head-of c .head .ensures) (c .first .given .1)
+
+abbrev at-middle : (c : tie.After-second) → let s = start-of (head-of (first-of (bare-of (core-of c)))) in
+    AtMiddle (s .pre .0) (s .pre .1) (s .args .nests .now) (s .args .split)
+at-middle c =
+    let s = start-of (head-of (first-of (bare-of (core-of c)))) in
+    split-middle (s .pre .0) (s .pre .1) (s .args .nests .now) (s .args .split) (at-front (first-of (bare-of (core-of c)))) (bare-of (core-of c) .bare .ensures) (core-of c .core .ensures) (c .second .given .1)
+
+abbrev at-wrapped : (c : tie.After-third) → let s = start-of (head-of (first-of (bare-of (core-of (second-of (wraps-of c)))))) in
+    AtWrapped (s .pre .0) (s .pre .1) (s .args .nests .now) (s .args .split)
+at-wrapped c =
+    let s = start-of (head-of (first-of (bare-of (core-of (second-of (wraps-of c)))))) in
+    split-wrapped (s .pre .0) (s .pre .1) (s .args .nests .now) (s .args .split) (at-middle (second-of (wraps-of c))) (wraps-of c .wraps .ensures) (c .third .given .1)
+
+abbrev at-back : (c : tie.After-fourth) → let s = start-of (head-of (first-of (bare-of (core-of (second-of (wraps-of (third-of (tail-of c)))))))) in
+    AtBack (s .pre .0) (s .pre .1) (s .args .nests .now) (s .args .split)
+at-back c =
+    let s = start-of (head-of (first-of (bare-of (core-of (second-of (wraps-of (third-of (tail-of c)))))))) in
+    split-back (s .pre .0) (s .pre .1) (s .args .nests .now) (s .args .split) (at-wrapped (third-of (tail-of c))) (tail-of c .tail .ensures) (c .fourth .given .1)
 
 slice-aggregate-head : tie.Need-slice-aggregate-head
 slice-aggregate-head c =
     let start = c .before .before .before .before .before .before .before in
-    sym (length-take-le (start .args .split) (start .args .prefixes .now) (let pre = start .pre .2 .some in let even = start .pre .2 .behind in let flags = start .pre .2 .flags in omega arith))
+    let args = start .args in
+    front-length (args .split) (args .prefixes .now) (start .pre .2 .some)
 
 head-requires : tie.Need-head-requires
 head-requires c κs =
     let start = c .before .before .before .before .before .before .before in
-    let a = split-asks₁ (start .pre .0) (start .pre .1) (start .args .nests .now) (start .args .split) in
-    (start .pre .0, a .1, a .0)
+    let args = start .args in
+    split-asks₁ (start .pre .0) (start .pre .1) (args .nests .now) (args .split)
 
 enum-known-first : tie.Need-enum-known-first
 enum-known-first c = search needs
@@ -29,47 +84,42 @@ same-length c = search needs
 
 returns : tie.Need-returns
 returns c =
-    let at4 = c .before .before .before .before in
-    let start = at4 .before .before .before .before .before .before .before .before in
-    split-stop₁ (start .pre .0) (start .pre .1) (start .args .nests .now) (start .args .split) (at4 .head .ensures) (c .enum-told .given .1)
+    let after-head = c .before .before .before .before in
+    let start = start-of after-head in
+    let args = start .args in
+    split-stop₁ (start .pre .0) (start .pre .1) (args .nests .now) (args .split) (after-head .head .ensures) (c .enum-told .given .1)
 
 slice-aggregate-bare : tie.Need-slice-aggregate-bare
 slice-aggregate-bare c =
-    let start = c .before .before .before .before .before .before .before .before .before .before .before .before .before .before .before in
-    sym (length-take-le (start .args .split) (start .args .prefixes .now) (let pre = start .pre .2 .some in let even = start .pre .2 .behind in let flags = start .pre .2 .flags in omega arith))
+    let start = start-of (head-of (c .before .before .before)) in
+    let args = start .args in
+    front-length (args .split) (args .prefixes .now) (start .pre .2 .some)
 
 bare-requires : tie.Need-bare-requires
 bare-requires c κs = search needs
 
 mul-core : tie.Need-mul-core
 mul-core c =
-    let start = c .before .before .before .before .before .before .before .before .before .before .before .before .before .before .before .before .before in
-    let pre = start .pre .2 .some in
-    let even = start .pre .2 .behind in
-    let flags = start .pre .2 .flags in
-    omega (arith, start .good)
+    let start = start-of (head-of (first-of (c .before))) in
+    omega (arith, split-inside (start .pre .2), start .good)
 
 sub-core : tie.Need-sub-core
 sub-core c = search needs
 
 part-core-start : tie.Need-part-core-start
 part-core-start c =
-    let start = c .before .before .before .before .before .before .before .before .before .before .before .before .before .before .before .before .before in
-    let pre = start .pre .2 .some in
-    let even = start .pre .2 .behind in
-    let flags = start .pre .2 .flags in
-    omega arith
+    let start = start-of (head-of (first-of (c .before))) in
+    split-inside (start .pre .2) .0
 
 part-core-end : tie.Need-part-core-end
 part-core-end c = search needs
 
 core-requires : tie.Need-core-requires
 core-requires c κs =
-    let at6 = c .before .before .before .before .before .before in
-    let at10 = at6 .before .before .before .before in
-    let start = at10 .before .before .before .before .before .before .before .before in
-    let a = split-asks₂ (start .pre .0) (start .pre .1) (start .args .nests .now) (start .args .split) (at10 .head .ensures) (at6 .first .given .1) in
-    rw (rest-all (start .args .suffixes .now) (start .args .split)) a
+    let after-first = first-of (c .before .before) in
+    let start = start-of (head-of after-first) in
+    let args = start .args in
+    split-asks₂ (start .pre .0) (start .pre .1) (args .nests .now) (args .split) (at-front after-first)
 
 enum-known-second : tie.Need-enum-known-second
 enum-known-second c = search needs
@@ -82,78 +132,51 @@ same-length-2 c = search needs
 
 returns-2 : tie.Need-returns-2
 returns-2 c =
-    let at4 = c .before .before .before .before in
-    let at7 = at4 .before .before .before in
-    let at11 = at7 .before .before .before .before in
-    let at15 = at11 .before .before .before .before in
-    let start = at15 .before .before .before .before .before .before .before .before in
-    split-stop₂
-    (start .pre .0)
-    (start .pre .1)
-    (start .args .nests .now)
-    (start .args .split)
-    (at15 .head .ensures)
-    (at11 .first .given .1)
-    (at7 .bare .ensures)
-    (rw (rest-all (start .args .suffixes .now) (start .args .split)) at (at4 .core .ensures))
-    (c .enum-told2 .given .1)
+    let after-core = c .before .before .before .before in
+    let after-bare = bare-of after-core in
+    let after-first = first-of after-bare in
+    let start = start-of (head-of after-first) in
+    let args = start .args in
+    split-stop₂ (start .pre .0) (start .pre .1) (args .nests .now) (args .split) (at-front after-first) (after-bare .bare .ensures)
+    (after-core .core .ensures) (c .enum-told2 .given .1)
 
 mul-wraps : tie.Need-mul-wraps
 mul-wraps c =
-    let start = c .before .before .before .before .before .before .before .before .before .before .before .before .before .before .before .before .before .before .before .before .before .before .before .before .before in
-    let pre = start .pre .2 .some in
-    let even = start .pre .2 .behind in
-    let flags = start .pre .2 .flags in
-    omega (arith, start .good)
+    let start = start-of (head-of (first-of (bare-of (core-of (c .before .before))))) in
+    omega (arith, start .pre .2 .some, start .good)
 
 sub-wraps : tie.Need-sub-wraps
 sub-wraps c =
-    let start = c .before .before .before .before .before .before .before .before .before .before .before .before .before .before .before .before .before .before .before .before .before .before .before .before .before in
-    let pre = start .pre .2 .some in
-    let even = start .pre .2 .behind in
-    let flags = start .pre .2 .flags in
-    omega arith
+    let start = start-of (head-of (first-of (bare-of (core-of (c .before .before))))) in
+    start .pre .2 .some
 
 part-wraps-start : tie.Need-part-wraps-start
 part-wraps-start c =
-    let start = c .before .before .before .before .before .before .before .before .before .before .before .before .before .before .before .before .before .before .before .before .before .before .before .before .before in
-    let pre = start .pre .2 .some in
-    let even = start .pre .2 .behind in
-    let flags = start .pre .2 .flags in
-    omega arith
+    let start = start-of (head-of (first-of (bare-of (core-of (c .before .before))))) in
+    start .pre .2 .some
 
 part-wraps-end : tie.Need-part-wraps-end
 part-wraps-end c = search needs
 
 sub-wraps-2 : tie.Need-sub-wraps-2
 sub-wraps-2 c =
-    let start = c .before .before .before .before .before .before .before .before .before .before .before .before .before .before .before .before .before .before .before .before .before .before .before .before .before .before in
-    let pre = start .pre .2 .some in
-    let even = start .pre .2 .behind in
-    let flags = start .pre .2 .flags in
-    omega arith
+    let start = start-of (head-of (first-of (bare-of (core-of (c .before .before .before))))) in
+    split-inside (start .pre .2) .1
 
 part-wraps-start-2 : tie.Need-part-wraps-start-2
 part-wraps-start-2 c =
-    let start = c .before .before .before .before .before .before .before .before .before .before .before .before .before .before .before .before .before .before .before .before .before .before .before .before .before .before in
-    let pre = start .pre .2 .some in
-    let even = start .pre .2 .behind in
-    let flags = start .pre .2 .flags in
-    omega arith
+    let start = start-of (head-of (first-of (bare-of (core-of (c .before .before .before))))) in
+    split-inside (start .pre .2) .1
 
 part-wraps-end-2 : tie.Need-part-wraps-end-2
 part-wraps-end-2 c = search needs
 
 wraps-requires : tie.Need-wraps-requires
 wraps-requires c κs =
-    let at4 = c .before .before .before .before in
-    let at8 = at4 .before .before .before .before in
-    let at11 = at8 .before .before .before in
-    let at15 = at11 .before .before .before .before in
-    let at19 = at15 .before .before .before .before in
-    let start = at19 .before .before .before .before .before .before .before .before in
-    let a = split-asks₃ (start .pre .0) (start .pre .1) (start .args .nests .now) (start .args .split) (at19 .head .ensures) (at15 .first .given .1) (at11 .bare .ensures) (rw (rest-all (start .args .suffixes .now) (start .args .split)) at (at8 .core .ensures)) (at4 .second .given .1) (start .pre .2 .flags) in
-    rw ((rest-all (start .args .prefixes .now) (start .args .split)), (rest-all (start .args .nests .now) (start .args .split))) a
+    let after-second = c .before .before .before .before in
+    let start = start-of (head-of (first-of (bare-of (core-of after-second)))) in
+    let args = start .args in
+    split-asks₃ (start .pre .0) (start .pre .1) (args .nests .now) (args .split) (at-middle after-second) (start .pre .2)
 
 enum-known-third : tie.Need-enum-known-third
 enum-known-third c = search needs
@@ -163,62 +186,32 @@ enum-told-3 c = search needs
 
 same-length-3 : tie.Need-same-length-3
 same-length-3 c =
-    let at4 = c .before .before .before .before in
-    let at13 = at4 .before .before .before .before .before .before .before .before .before in
-    let at24 = at13 .before .before .before .before .before .before .before .before .before .before .before in
-    at4 .wraps .kept .1 .0 ∙ at13 .core .kept .1 .0 ∙ at24 .head .kept .1 .0
+    let after-wraps = c .before .before .before .before in
+    let after-core = core-of (second-of after-wraps) in
+    let after-head = head-of (first-of (bare-of after-core)) in
+    after-wraps .wraps .kept .1 .0 ∙ after-core .core .kept .1 .0 ∙ after-head .head .kept .1 .0
 
 returns-3 : tie.Need-returns-3
 returns-3 c =
-    let at4 = c .before .before .before .before in
-    let at9 = at4 .before .before .before .before .before in
-    let at13 = at9 .before .before .before .before in
-    let at16 = at13 .before .before .before in
-    let at20 = at16 .before .before .before .before in
-    let at24 = at20 .before .before .before .before in
-    let start = at24 .before .before .before .before .before .before .before .before in
-    let nests-2 = start .args .nests .now in
-    split-stop₃
-    (start .pre .0)
-    (start .pre .1)
-    nests-2
-    (start .args .split)
-    (at24 .head .ensures)
-    (at20 .first .given .1)
-    (at16 .bare .ensures)
-    (rw (rest-all (start .args .suffixes .now) (start .args .split)) at (at13 .core .ensures))
-    (at9 .second .given .1)
-    (rw ((rest-all (start .args .prefixes .now) (start .args .split)), (rest-all nests-2 (start .args .split))) at (at4 .wraps .ensures))
+    let after-wraps = c .before .before .before .before in
+    let after-second = second-of after-wraps in
+    let start = start-of (head-of (first-of (bare-of (core-of after-second)))) in
+    let args = start .args in
+    split-stop₃ (start .pre .0) (start .pre .1) (args .nests .now) (args .split) (at-middle after-second) (after-wraps .wraps .ensures)
     (c .enum-told3 .given .1)
 
 slice-aggregate-tail : tie.Need-slice-aggregate-tail
 slice-aggregate-tail c =
-    let start = c .before .before .before .before .before .before .before .before .before .before .before .before .before .before .before .before .before .before .before .before .before .before .before .before .before .before .before .before .before .before .before .before .before .before .before in
-    sym (length-take-le (start .args .split) (start .args .suffixes .now) (let pre = start .pre .2 .some in let even = start .pre .2 .behind in let flags = start .pre .2 .flags in omega arith))
+    let start = start-of (head-of (first-of (bare-of (core-of (second-of (wraps-of (c .before .before .before))))))) in
+    let args = start .args in
+    front-length (args .split) (args .suffixes .now) (split-inside (start .pre .2) .0)
 
 tail-requires : tie.Need-tail-requires
 tail-requires c κs =
-    let at3 = c .before .before .before in
-    let at7 = at3 .before .before .before .before in
-    let at12 = at7 .before .before .before .before .before in
-    let at16 = at12 .before .before .before .before in
-    let at19 = at16 .before .before .before in
-    let at23 = at19 .before .before .before .before in
-    let at27 = at23 .before .before .before .before in
-    let start = at27 .before .before .before .before .before .before .before .before in
-    let nests-2 = start .args .nests .now in
-    split-asks₄
-    (start .pre .0)
-    (start .pre .1)
-    nests-2
-    (start .args .split)
-    (at27 .head .ensures)
-    (at23 .first .given .1)
-    (at19 .bare .ensures)
-    (rw (rest-all (start .args .suffixes .now) (start .args .split)) at (at16 .core .ensures))
-    (at12 .second .given .1)
-    (rw ((rest-all (start .args .prefixes .now) (start .args .split)), (rest-all nests-2 (start .args .split))) at (at7 .wraps .ensures))
-    (at3 .third .given .1)
+    let after-third = c .before .before .before in
+    let start = start-of (head-of (first-of (bare-of (core-of (second-of (wraps-of after-third)))))) in
+    let args = start .args in
+    split-asks₄ (start .pre .0) (start .pre .1) (args .nests .now) (args .split) (at-wrapped after-third)
 
 enum-known-fourth : tie.Need-enum-known-fourth
 enum-known-fourth c = search needs
@@ -228,37 +221,19 @@ enum-told-4 c = search needs
 
 same-length-4 : tie.Need-same-length-4
 same-length-4 c =
-    let at4 = c .before .before .before .before in
-    let at12 = at4 .before .before .before .before .before .before .before .before in
-    let at21 = at12 .before .before .before .before .before .before .before .before .before in
-    let at32 = at21 .before .before .before .before .before .before .before .before .before .before .before in
-    at4 .tail .kept .1 .0 ∙ at12 .wraps .kept .1 .0 ∙ at21 .core .kept .1 .0 ∙ at32 .head .kept .1 .0
+    let after-tail = c .before .before .before .before in
+    let after-wraps = wraps-of (third-of after-tail) in
+    let after-core = core-of (second-of after-wraps) in
+    let after-head = head-of (first-of (bare-of after-core)) in
+    after-tail .tail .kept .1 .0 ∙ after-wraps .wraps .kept .1 .0 ∙ after-core .core .kept .1 .0 ∙ after-head .head .kept .1 .0
 
 returns-4 : tie.Need-returns-4
 returns-4 c =
-    let at4 = c .before .before .before .before in
-    let at8 = at4 .before .before .before .before in
-    let at12 = at8 .before .before .before .before in
-    let at17 = at12 .before .before .before .before .before in
-    let at21 = at17 .before .before .before .before in
-    let at24 = at21 .before .before .before in
-    let at28 = at24 .before .before .before .before in
-    let at32 = at28 .before .before .before .before in
-    let start = at32 .before .before .before .before .before .before .before .before in
-    let nests-2 = start .args .nests .now in
-    split-stop₄
-    (start .pre .0)
-    (start .pre .1)
-    nests-2
-    (start .args .split)
-    (at32 .head .ensures)
-    (at28 .first .given .1)
-    (at24 .bare .ensures)
-    (rw (rest-all (start .args .suffixes .now) (start .args .split)) at (at21 .core .ensures))
-    (at17 .second .given .1)
-    (rw ((rest-all (start .args .prefixes .now) (start .args .split)), (rest-all nests-2 (start .args .split))) at (at12 .wraps .ensures))
-    (at8 .third .given .1)
-    (at4 .tail .ensures)
+    let after-tail = c .before .before .before .before in
+    let after-third = third-of after-tail in
+    let start = start-of (head-of (first-of (bare-of (core-of (second-of (wraps-of after-third)))))) in
+    let args = start .args in
+    split-stop₄ (start .pre .0) (start .pre .1) (args .nests .now) (args .split) (at-wrapped after-third) (after-tail .tail .ensures)
     (c .enum-told4 .given .1)
 
 append-requires : tie.Need-append-requires
@@ -266,42 +241,26 @@ append-requires c κs = search needs
 
 same-length-5 : tie.Need-same-length-5
 same-length-5 c =
-    let at2 = c .before .before in
-    let at9 = at2 .before .before .before .before .before .before .before in
-    let at17 = at9 .before .before .before .before .before .before .before .before in
-    let at26 = at17 .before .before .before .before .before .before .before .before .before in
-    let at37 = at26 .before .before .before .before .before .before .before .before .before .before .before in
-    at2 .append .kept .1 .0 ∙ at9 .tail .kept .1 .0 ∙ at17 .wraps .kept .1 .0 ∙ at26 .core .kept .1 .0 ∙ at37 .head .kept .1 .0
+    let after-append = c .before .before in
+    let after-tail = tail-of (after-append .before .before .before) in
+    let after-wraps = wraps-of (third-of after-tail) in
+    let after-core = core-of (second-of after-wraps) in
+    let after-head = head-of (first-of (bare-of after-core)) in
+    after-append .append .kept .1 .0
+    ∙ after-tail .tail .kept .1 .0
+    ∙ after-wraps .wraps .kept .1 .0
+    ∙ after-core .core .kept .1 .0
+    ∙ after-head .head .kept .1 .0
 
 returns-5 : tie.Need-returns-5
 returns-5 c =
-    let at2 = c .before .before in
-    let at5 = at2 .before .before .before in
-    let at9 = at5 .before .before .before .before in
-    let at13 = at9 .before .before .before .before in
-    let at17 = at13 .before .before .before .before in
-    let at22 = at17 .before .before .before .before .before in
-    let at26 = at22 .before .before .before .before in
-    let at29 = at26 .before .before .before in
-    let at33 = at29 .before .before .before .before in
-    let at37 = at33 .before .before .before .before in
-    let start = at37 .before .before .before .before .before .before .before .before in
-    let nests-2 = start .args .nests .now in
-    split-last
-    (start .pre .0)
-    (start .pre .1)
-    nests-2
-    (start .args .split)
-    (at37 .head .ensures)
-    (at33 .first .given .1)
-    (at29 .bare .ensures)
-    (rw (rest-all (start .args .suffixes .now) (start .args .split)) at (at26 .core .ensures))
-    (at22 .second .given .1)
-    (rw ((rest-all (start .args .prefixes .now) (start .args .split)), (rest-all nests-2 (start .args .split))) at (at17 .wraps .ensures))
-    (at13 .third .given .1)
-    (at9 .tail .ensures)
-    (at5 .fourth .given .1)
-    (at2 .append .ensures)
+    let after-append = c .before .before in
+    let after-fourth = after-append .before .before .before in
+    let after-first = first-of (bare-of (core-of (second-of (wraps-of (third-of (tail-of after-fourth)))))) in
+    let start = start-of (head-of after-first) in
+    let args = start .args in
+    split-last (start .pre .0) (start .pre .1) (args .nests .now) (args .split) (at-front after-first) (at-back after-fourth)
+    (after-append .append .ensures)
 
 pub alternative-spec : {M : Type 1} → statement M
 alternative-spec =

@@ -5,6 +5,13 @@ use Rattle.block.proofs.Steps.{core-stop₁, core-asks₂, core-stop₂
 use Rattle.block.proofs.parts.core.Statement.{statement}
 use Rattle.block.proofs.parts.core.Tie as tie
 
+-- back to earlier places
+abbrev start-of : tie.After-guarded → tie.Start
+start-of c = c .before .before .before .before .before .before .before
+
+abbrev guarded-of : tie.After-first → tie.After-guarded
+guarded-of c = c .before .before .before .before
+
 guarded-requires : tie.Need-guarded-requires
 guarded-requires c κs =
     let start = c .before .before .before .before .before .before in
@@ -21,32 +28,20 @@ same-length c = search needs
 
 returns : tie.Need-returns
 returns c =
-    let at4 = c .before .before .before .before in
-    let start = at4 .before .before .before .before .before .before .before in
-    core-stop₁
-    (start .pre .0)
-    (start .pre .1)
-    (start .pre .2)
-    (start .args .asked)
-    (start .args .after .now)
-    (start .pre .3)
-    (at4 .guarded .ensures)
+    let after-guarded = c .before .before .before .before in
+    let start = start-of after-guarded in
+    let args = start .args in
+    core-stop₁ (start .pre .0) (start .pre .1) (start .pre .2) (args .asked) (args .after .now) (start .pre .3) (after-guarded .guarded .ensures)
     (c .enum-told .given .1)
 
 nested-requires : tie.Need-nested-requires
 nested-requires c κs =
-    let at2 = c .before .before in
-    let at6 = at2 .before .before .before .before in
-    let start = at6 .before .before .before .before .before .before .before in
-    core-asks₂
-    (start .pre .0)
-    (start .pre .1)
-    (start .pre .2)
-    (start .args .asked)
-    (start .args .after .now)
-    (start .pre .3)
-    (at6 .guarded .ensures)
-    (at2 .first .given .1)
+    let after-first = c .before .before in
+    let after-guarded = guarded-of after-first in
+    let start = start-of after-guarded in
+    let args = start .args in
+    core-asks₂ (start .pre .0) (start .pre .1) (start .pre .2) (args .asked) (args .after .now) (start .pre .3) (after-guarded .guarded .ensures)
+    (after-first .first .given .1)
 
 enum-known-second : tie.Need-enum-known-second
 enum-known-second c = search needs
@@ -59,40 +54,24 @@ same-length-2 c = search needs
 
 returns-2 : tie.Need-returns-2
 returns-2 c =
-    let at4 = c .before .before .before .before in
-    let at7 = at4 .before .before .before in
-    let at11 = at7 .before .before .before .before in
-    let start = at11 .before .before .before .before .before .before .before in
-    core-stop₂
-    (start .pre .0)
-    (start .pre .1)
-    (start .pre .2)
-    (start .args .asked)
-    (start .args .after .now)
-    (start .pre .3)
-    (at11 .guarded .ensures)
-    (at7 .first .given .1)
-    (at4 .nested .ensures)
-    (c .enum-told2 .given .1)
+    let after-nested = c .before .before .before .before in
+    let after-first = after-nested .before .before .before in
+    let after-guarded = guarded-of after-first in
+    let start = start-of after-guarded in
+    let args = start .args in
+    core-stop₂ (start .pre .0) (start .pre .1) (start .pre .2) (args .asked) (args .after .now) (start .pre .3) (after-guarded .guarded .ensures)
+    (after-first .first .given .1) (after-nested .nested .ensures) (c .enum-told2 .given .1)
 
 list-requires : tie.Need-list-requires
 list-requires c κs =
-    let at2 = c .before .before in
-    let at6 = at2 .before .before .before .before in
-    let at9 = at6 .before .before .before in
-    let at13 = at9 .before .before .before .before in
-    let start = at13 .before .before .before .before .before .before .before in
-    core-asks₃
-    (start .pre .0)
-    (start .pre .1)
-    (start .pre .2)
-    (start .args .asked)
-    (start .args .after .now)
-    (start .pre .3)
-    (at13 .guarded .ensures)
-    (at9 .first .given .1)
-    (at6 .nested .ensures)
-    (at2 .second .given .1)
+    let after-second = c .before .before in
+    let after-nested = after-second .before .before .before .before in
+    let after-first = after-nested .before .before .before in
+    let after-guarded = guarded-of after-first in
+    let start = start-of after-guarded in
+    let args = start .args in
+    core-asks₃ (start .pre .0) (start .pre .1) (start .pre .2) (args .asked) (args .after .now) (start .pre .3) (after-guarded .guarded .ensures)
+    (after-first .first .given .1) (after-nested .nested .ensures) (after-second .second .given .1)
 
 enum-known-third : tie.Need-enum-known-third
 enum-known-third c = search needs
@@ -105,24 +84,15 @@ same-length-3 c = search needs
 
 returns-3 : tie.Need-returns-3
 returns-3 c =
-    let at4 = c .before .before .before .before in
-    let at7 = at4 .before .before .before in
-    let at11 = at7 .before .before .before .before in
-    let at14 = at11 .before .before .before in
-    let at18 = at14 .before .before .before .before in
-    let start = at18 .before .before .before .before .before .before .before in
-    core-stop₃
-    (start .pre .0)
-    (start .pre .1)
-    (start .pre .2)
-    (start .args .asked)
-    (start .args .after .now)
-    (start .pre .3)
-    (at18 .guarded .ensures)
-    (at14 .first .given .1)
-    (at11 .nested .ensures)
-    (at7 .second .given .1)
-    (at4 .list .ensures)
+    let after-list = c .before .before .before .before in
+    let after-second = after-list .before .before .before in
+    let after-nested = after-second .before .before .before .before in
+    let after-first = after-nested .before .before .before in
+    let after-guarded = guarded-of after-first in
+    let start = start-of after-guarded in
+    let args = start .args in
+    core-stop₃ (start .pre .0) (start .pre .1) (start .pre .2) (args .asked) (args .after .now) (start .pre .3) (after-guarded .guarded .ensures)
+    (after-first .first .given .1) (after-nested .nested .ensures) (after-second .second .given .1) (after-list .list .ensures)
     (c .enum-told3 .given .1)
 
 append-requires : tie.Need-append-requires
@@ -130,36 +100,26 @@ append-requires c κs = search needs
 
 same-length-4 : tie.Need-same-length-4
 same-length-4 c =
-    let at2 = c .before .before in
-    let at9 = at2 .before .before .before .before .before .before .before in
-    let at16 = at9 .before .before .before .before .before .before .before in
-    let at23 = at16 .before .before .before .before .before .before .before in
-    at2 .append .kept .1 .0 ∙ at9 .list .kept .1 .0 ∙ at16 .nested .kept .1 .0 ∙ at23 .guarded .kept .1 .0
+    let after-append = c .before .before in
+    let after-list = after-append .before .before .before .before .before .before .before in
+    let after-nested = after-list .before .before .before .before .before .before .before in
+    let after-guarded = guarded-of (after-nested .before .before .before) in
+    after-append .append .kept .1 .0 ∙ after-list .list .kept .1 .0 ∙ after-nested .nested .kept .1 .0 ∙ after-guarded .guarded .kept .1 .0
 
 returns-4 : tie.Need-returns-4
 returns-4 c =
-    let at2 = c .before .before in
-    let at5 = at2 .before .before .before in
-    let at9 = at5 .before .before .before .before in
-    let at12 = at9 .before .before .before in
-    let at16 = at12 .before .before .before .before in
-    let at19 = at16 .before .before .before in
-    let at23 = at19 .before .before .before .before in
-    let start = at23 .before .before .before .before .before .before .before in
-    core-last
-    (start .pre .0)
-    (start .pre .1)
-    (start .pre .2)
-    (start .args .asked)
-    (start .args .after .now)
-    (start .pre .3)
-    (at23 .guarded .ensures)
-    (at19 .first .given .1)
-    (at16 .nested .ensures)
-    (at12 .second .given .1)
-    (at9 .list .ensures)
-    (at5 .third .given .1)
-    (at2 .append .ensures)
+    let after-append = c .before .before in
+    let after-third = after-append .before .before .before in
+    let after-list = after-third .before .before .before .before in
+    let after-second = after-list .before .before .before in
+    let after-nested = after-second .before .before .before .before in
+    let after-first = after-nested .before .before .before in
+    let after-guarded = guarded-of after-first in
+    let start = start-of after-guarded in
+    let args = start .args in
+    core-last (start .pre .0) (start .pre .1) (start .pre .2) (args .asked) (args .after .now) (start .pre .3) (after-guarded .guarded .ensures)
+    (after-first .first .given .1) (after-nested .nested .ensures) (after-second .second .given .1) (after-list .list .ensures)
+    (after-third .third .given .1) (after-append .append .ensures)
 
 pub core-spec : {M : Type 1} → statement M
 core-spec =

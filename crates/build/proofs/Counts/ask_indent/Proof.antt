@@ -16,7 +16,9 @@ ask-requires : tie.Need-ask-requires
 ask-requires c κs = search needs
 
 returns : tie.Need-returns
-returns c = simp (← (c .before .before .before .before .has .ensures), ← (c .before .before .indent-adds .ensures)) (c .ask .ensures)
+returns c =
+    let after-indent-adds = c .before .before in
+    simp (← (after-indent-adds .before .before .has .ensures), ← (after-indent-adds .indent-adds .ensures)) (c .ask .ensures)
 
 pub ask-indent-spec : {M : Type 1} → statement M
 ask-indent-spec = tie.close (tie.spec has-requires indent-adds-requires cast-t10 ask-requires returns)

@@ -7,7 +7,10 @@ use Rattle.build.proofs.Counts.broken_or_blank.Statement.{statement}
 use Rattle.build.proofs.Counts.broken_or_blank.Tie as tie
 
 node-requires : tie.Need-node-requires
-node-requires c κs = let p = c .before .before .before .before .pre in omega (arith, p)
+node-requires c κs =
+    let start = c .before .before .before .before in
+    let p = start .pre in
+    omega (arith, p)
 
 enum-known-made : tie.Need-enum-known-made
 enum-known-made c = search needs
@@ -24,8 +27,11 @@ same-length-2 c = search needs
 returns : tie.Need-returns
 unfolding line
 returns c =
-    let a = c .before .before .before .before .before .before .before .before .before .args in
-    line-refused (a .self) (a .table .now) (a .text .now) space-one (a .nodes) (c .before .before .before .before .before .before .before .before .before .pre) (c .before .before .before .before .node .ensures) (c .enum-told .given .1)
+    let after-node = c .before .before .before .before in
+    let start = after-node .before .before .before .before .before in
+    let args = start .args in
+    line-refused (args .self) (args .table .now) (args .text .now) space-one (args .nodes) (start .pre) (after-node .node .ensures)
+    (c .enum-told .given .1)
 
 space-requires : tie.Need-space-requires
 space-requires c κs = search needs
@@ -42,8 +48,14 @@ same-length-4 c = search needs
 returns-2 : tie.Need-returns-2
 unfolding line
 returns-2 c =
-    let a = c .before .before .before .before .before .before .before .before .before .before .before .before .before .before .before .before .before .before .before .before .before .before .args in
-    line-made (a .self) (a .table .now) (a .text .now) space-one (a .nodes) (c .before .before .before .before .before .before .before .before .before .before .before .before .before .before .before .before .before .before .before .before .before .before .pre) (c .before .before .before .before .before .before .before .before .before .before .before .before .before .before .before .before .before .node .ensures) (c .before .before .before .before .before .before .before .before .before .before .before .before .before .made .given .1) _ _ _ (c .before .before .before .before .before .before .before .before .before .space .ensures) (c .before .before .or-flat .ensures)
+    let after-or-flat = c .before .before in
+    let after-space = after-or-flat .before .before .before .before .before .before .before in
+    let after-made = after-space .before .before .before .before in
+    let after-node = after-made .before .before .before .before in
+    let start = after-node .before .before .before .before .before in
+    let args = start .args in
+    line-made (args .self) (args .table .now) (args .text .now) space-one (args .nodes) (start .pre) (after-node .node .ensures)
+    (after-made .made .given .1) _ _ _ (after-space .space .ensures) (after-or-flat .or-flat .ensures)
 
 pub broken-or-blank-spec : {M : Type 1} → statement M
 broken-or-blank-spec =

@@ -7,7 +7,10 @@ use Rattle.build.proofs.Counts.broken_or_nil.Statement.{statement}
 use Rattle.build.proofs.Counts.broken_or_nil.Tie as tie
 
 node-requires : tie.Need-node-requires
-node-requires c κs = let p = c .before .before .before .pre in omega (arith, p)
+node-requires c κs =
+    let start = c .before .before .before in
+    let p = start .pre in
+    omega (arith, p)
 
 enum-known-made : tie.Need-enum-known-made
 enum-known-made c = search needs
@@ -21,8 +24,11 @@ same-length c = search needs
 returns : tie.Need-returns
 unfolding line₀
 returns c =
-    let a = c .before .before .before .before .before .before .before .before .args in
-    line-refused (a .self) (a .table .now) (a .text .now) nil-one (a .nodes) (c .before .before .before .before .before .before .before .before .pre) (c .before .before .before .before .node .ensures) (c .enum-told .given .1)
+    let after-node = c .before .before .before .before in
+    let start = after-node .before .before .before .before in
+    let args = start .args in
+    line-refused (args .self) (args .table .now) (args .text .now) nil-one (args .nodes) (start .pre) (after-node .node .ensures)
+    (c .enum-told .given .1)
 
 nil-requires : tie.Need-nil-requires
 nil-requires c κs = search needs
@@ -36,8 +42,14 @@ same-length-2 c = search needs
 returns-2 : tie.Need-returns-2
 unfolding line₀
 returns-2 c =
-    let a = c .before .before .before .before .before .before .before .before .before .before .before .before .before .before .before .before .before .args in
-    line-made (a .self) (a .table .now) (a .text .now) nil-one (a .nodes) (c .before .before .before .before .before .before .before .before .before .before .before .before .before .before .before .before .before .pre) (c .before .before .before .before .before .before .before .before .before .before .before .before .before .node .ensures) (c .before .before .before .before .before .before .before .before .before .made .given .1) _ _ _ (c .before .before .before .before .before .before .nil .ensures) (c .before .before .or-flat .ensures)
+    let after-or-flat = c .before .before in
+    let after-nil = after-or-flat .before .before .before .before in
+    let after-made = after-nil .before .before .before in
+    let after-node = after-made .before .before .before .before in
+    let start = after-node .before .before .before .before in
+    let args = start .args in
+    line-made (args .self) (args .table .now) (args .text .now) nil-one (args .nodes) (start .pre) (after-node .node .ensures)
+    (after-made .made .given .1) _ _ _ (after-nil .nil .ensures) (after-or-flat .or-flat .ensures)
 
 pub broken-or-nil-spec : {M : Type 1} → statement M
 broken-or-nil-spec =

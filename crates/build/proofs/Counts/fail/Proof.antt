@@ -1,20 +1,16 @@
 -- `fail`: one node.
 use borrow.Author.Needs.{needs}
-use mathlib.Core.Bool.{true}
-use Rattle.build.proofs.Leaf.{node-alone}
 use Rattle.build.proofs.Counts.fail.Statement.{statement}
 use Rattle.build.proofs.Counts.fail.Tie as tie
 
-node-requires : tie.Need-node-requires
-node-requires c κs = search needs
+one-requires : tie.Need-one-requires
+one-requires c κs = search needs
 
 same-length : tie.Need-same-length
 same-length c = search needs
 
 returns : tie.Need-returns
-returns c =
-    let a = c .before .before .before .before .before .before .args in
-    node-alone (a .self) (a .table .now) (a .text .now) true true 10 0 0 0 (c .before .before .node .ensures)
+returns c = c .before .before .one .ensures
 
 pub fail-spec : {M : Type 1} → statement M
-fail-spec = tie.close (tie.spec node-requires same-length returns)
+fail-spec = tie.close (tie.spec one-requires same-length returns)

@@ -1,23 +1,24 @@
 -- `flat_alt`: one node, if its operands are present.
 use borrow.Author.Needs.{needs}
-use mathlib.Core.Bool.{true}
-use Rattle.build.proofs.Leaf.{node-alone}
+use Rattle.build.proofs.Leaf.{by-operands}
 use Rattle.build.proofs.Counts.flat_alt.Statement.{statement}
 use Rattle.build.proofs.Counts.flat_alt.Tie as tie
 
 has-both-requires : tie.Need-has-both-requires
 has-both-requires c κs = search needs
 
-node-requires : tie.Need-node-requires
-node-requires c κs = search needs
+one-requires : tie.Need-one-requires
+one-requires c κs = search needs
 
 same-length : tie.Need-same-length
 same-length c = search needs
 
 returns : tie.Need-returns
 returns c =
-    let a = c .before .before .before .before .before .before .before .args in
-    simp (← (c .before .before .before .before .has-both .ensures)) (node-alone (a .self) (a .table .now) (a .text .now) (c .before .before .before .before .has-both .result) true 3 (a .broken .0) (a .flat .0) 0 (c .before .before .node .ensures))
+    let after-one = c .before .before in
+    let after-has-both = after-one .before .before in
+    let args = after-has-both .before .before .before .args in
+    by-operands (args .self) (args .table .now) (args .text .now) (after-has-both .has-both .ensures) _ (after-one .one .ensures)
 
 pub flat-alt-spec : {M : Type 1} → statement M
-flat-alt-spec = tie.close (tie.spec has-both-requires node-requires same-length returns)
+flat-alt-spec = tie.close (tie.spec has-both-requires one-requires same-length returns)

@@ -1,12 +1,6 @@
 -- `group`: given back or wrapped.
 use borrow.Author.Needs.{needs}
-use mathlib.Core.Path.{sym, _∙_}
-use mathlib.Core.Bool.{true}
-use Rattle.build.specs.Draft.{counted, older, add}
-use Rattle.build.specs.Parts.{group}
-use Rattle.build.proofs.Stand.{made-same}
-use Rattle.build.proofs.Leaf.{given-back, node-alone}
-use Rattle.build.proofs.Choices.{group-stays, group-wraps}
+use Rattle.build.proofs.Leaf.{group-gives-back, group-groups}
 use Rattle.build.proofs.Counts.group.Statement.{statement}
 use Rattle.build.proofs.Counts.group.Tie as tie
 
@@ -16,31 +10,36 @@ has-requires c κs = search needs
 stays-requires : tie.Need-stays-requires
 stays-requires c κs = search needs
 
-older-requires : tie.Need-older-requires
-older-requires c κs = search needs
+given-back-requires : tie.Need-given-back-requires
+given-back-requires c κs = search needs
 
 same-length : tie.Need-same-length
 same-length c = search needs
 
 returns : tie.Need-returns
-unfolding counted
 returns c =
-    let a = c .before .before .before .before .before .before .before .args in
-    let p = c .before .before .before .before .has .result in
-    simp (← (c .before .before .before .before .has .ensures)) (given-back (a .self) (a .table .now) (a .text .now) p true (a .n) (c .older .ensures) ∙ sym (made-same (a .self) (a .table .now) (a .text .now) p true true (λ s. group s (a .n .0)) (λ s. older s (a .n .0)) (group-stays (counted (a .self) (a .table .now) (a .text .now)) (a .n .0) (sym (c .before .before .stays .ensures) ∙ c .before .if1 .taken))))
+    let then1 = c .before .before in
+    let after-stays = then1 .before in
+    let after-has = after-stays .before .before in
+    let args = after-has .before .before .before .args in
+    group-gives-back (args .self) (args .table .now) (args .text .now) (after-has .has .ensures) (args .n .0) (after-stays .stays .ensures)
+    (then1 .if1 .taken) (c .given-back .ensures)
 
-node-requires : tie.Need-node-requires
-node-requires c κs = search needs
+one-requires : tie.Need-one-requires
+one-requires c κs = search needs
 
 same-length-2 : tie.Need-same-length-2
 same-length-2 c = search needs
 
 returns-2 : tie.Need-returns-2
-unfolding counted
 returns-2 c =
-    let a = c .before .before .before .before .before .before .before .before .before .before .args in
-    let p = c .before .before .before .before .before .before .before .has .result in
-    simp (← (c .before .before .before .before .before .before .before .has .ensures)) (node-alone (a .self) (a .table .now) (a .text .now) p true 2 (a .n .0) 0 0 (c .before .before .node .ensures) ∙ sym (made-same (a .self) (a .table .now) (a .text .now) p true true (λ s. group s (a .n .0)) (λ s. add s 2 (a .n .0) 0 0) (group-wraps (counted (a .self) (a .table .now) (a .text .now)) (a .n .0) (sym (c .before .before .before .before .before .stays .ensures) ∙ c .before .before .before .before .if1 .left))))
+    let after-one = c .before .before in
+    let else1 = after-one .before .before in
+    let after-stays = else1 .before in
+    let after-has = after-stays .before .before in
+    let args = after-has .before .before .before .args in
+    group-groups (args .self) (args .table .now) (args .text .now) (after-has .has .ensures) (args .n .0) (after-stays .stays .ensures)
+    (else1 .if1 .left) (after-one .one .ensures)
 
 pub group-spec : {M : Type 1} → statement M
 group-spec =
@@ -48,9 +47,9 @@ group-spec =
     (tie.spec
     has-requires
     stays-requires
-    older-requires
+    given-back-requires
     same-length
     returns
-    node-requires
+    one-requires
     same-length-2
     returns-2)

@@ -20,8 +20,10 @@ same-length c = search needs
 returns : tie.Need-returns
 unfolding counted
 returns c =
-    let a = c .before .before .before .before .before .before .before .before .args in
-    hang-refused (a .self) (a .table .now) (a .text .now) (a .n .0) (a .amount .0) (a .way) (c .before .before .before .before .nest-before .ensures) (c .enum-told .given .1)
+    let after-nest-before = c .before .before .before .before in
+    let args = after-nest-before .before .before .before .before .args in
+    hang-refused (args .self) (args .table .now) (args .text .now) (args .n .0) (args .amount .0) (args .way)
+    (after-nest-before .nest-before .ensures) (c .enum-told .given .1)
 
 align-requires : tie.Need-align-requires
 align-requires c κs = search needs
@@ -32,8 +34,12 @@ same-length-2 c = search needs
 returns-2 : tie.Need-returns-2
 unfolding counted
 returns-2 c =
-    let a = c .before .before .before .before .before .before .before .before .before .before .before .before .before .args in
-    hang-made (a .self) (a .table .now) (a .text .now) (a .n .0) (a .amount .0) (a .way) (c .before .before .before .before .before .before .before .before .before .nest-before .ensures) (c .before .before .before .before .before .first .given .1) (c .before .before .align .ensures)
+    let after-align = c .before .before in
+    let after-first = after-align .before .before .before in
+    let after-nest-before = after-first .before .before .before .before in
+    let args = after-nest-before .before .before .before .before .args in
+    hang-made (args .self) (args .table .now) (args .text .now) (args .n .0) (args .amount .0) (args .way) (after-nest-before .nest-before .ensures)
+    (after-first .first .given .1) (after-align .align .ensures)
 
 pub hang-spec : {M : Type 1} → statement M
 hang-spec =

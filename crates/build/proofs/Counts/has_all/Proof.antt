@@ -28,10 +28,13 @@ shared-slice-read-if1 c = search needs
 returns : tie.Need-returns Inv-loop μ-loop
 unfolding hasAll
 returns c =
-    let at3 = c .before .before .before in
-    let at4 = at3 .before in
-    let start = at4 .before in
-    sym (at4 .loop .inv .1 ∙ all-not (has (start .args .self)) (hasAll (start .args .self)) refl (λ x xs. refl) (start .args .ns .now) (at4 .loop .i) (at3 .loop-test .taken) (le-ltb _ _ (c .if1 .taken)))
+    let in-loop = c .before .before .before in
+    let turn = in-loop .before in
+    let args = turn .before .args in
+    sym
+    (turn .loop .inv .1
+    ∙ all-not (has (args .self)) (hasAll (args .self)) refl (λ x xs. refl) (args .ns .now) (turn .loop .i) (in-loop .loop-test .taken)
+    (le-ltb _ _ (c .if1 .taken)))
 
 add-i : tie.Need-add-i Inv-loop μ-loop
 add-i c = search needs
@@ -42,16 +45,22 @@ loop-less c = search needs
 loop-again : tie.Need-loop-again Inv-loop μ-loop
 unfolding hasAll
 loop-again c =
-    let at3 = c .before .before .before in
-    let at4 = at3 .before in
-    let start = at4 .before in
-    (omega arith, at4 .loop .inv .1 ∙ all-next (has (start .args .self)) (hasAll (start .args .self)) refl (λ x xs. refl) (start .args .ns .now) (at4 .loop .i) (at3 .loop-test .taken) (lt-ltb _ _ (c .if1 .left)))
+    let in-loop = c .before .before .before in
+    let turn = in-loop .before in
+    let args = turn .before .args in (
+      omega arith,
+      turn .loop .inv .1
+          ∙ all-next (has (args .self)) (hasAll (args .self)) refl (λ x xs. refl) (args .ns .now) (turn .loop .i) (in-loop .loop-test .taken)
+          (lt-ltb _ _ (c .if1 .left)),
+    )
 
 returns-2 : tie.Need-returns-2 Inv-loop μ-loop
 unfolding hasAll
 returns-2 c =
-    let start = c .before .before in
-    sym (c .before .loop .inv .1 ∙ all-end (has (start .args .self)) (hasAll (start .args .self)) refl (λ x xs. refl) (start .args .ns .now) (c .before .loop .i) (c .loop-test .left))
+    let turn = c .before in
+    let args = turn .before .args in
+    sym
+    (turn .loop .inv .1 ∙ all-end (has (args .self)) (hasAll (args .self)) refl (λ x xs. refl) (args .ns .now) (turn .loop .i) (c .loop-test .left))
 
 pub has-all-spec : {M : Type 1} → statement M
 has-all-spec =

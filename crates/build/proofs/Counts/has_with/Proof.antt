@@ -10,7 +10,9 @@ has-all-requires : tie.Need-has-all-requires
 has-all-requires c κs = search needs
 
 returns : tie.Need-returns
-returns c = simp (← (c .before .before .has .ensures), c .before .if1 .taken) (c .has-all .ensures)
+returns c =
+    let then1 = c .before in
+    simp (← (then1 .before .has .ensures), then1 .if1 .taken) (c .has-all .ensures)
 
 returns-2 : tie.Need-returns-2
 returns-2 c = simp (← (c .before .has .ensures), c .if1 .left)

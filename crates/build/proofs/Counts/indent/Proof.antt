@@ -15,16 +15,22 @@ same-length c = search needs
 
 returns : tie.Need-returns
 returns c =
-    let a = c .before .before .before .before .before .before .before .args in
-    indent-refused (a .self) (a .table .now) (a .text .now) (a .n .0) (a .by .0) (c .before .before .before .ask-indent .ensures) (c .before .asked .given .1)
+    let after-asked = c .before in
+    let after-ask-indent = after-asked .before .before in
+    let args = after-ask-indent .before .before .before .before .args in
+    indent-refused (args .self) (args .table .now) (args .text .now) (args .n .0) (args .by .0) (after-ask-indent .ask-indent .ensures)
+    (after-asked .asked .given .1)
 
 enum-told : tie.Need-enum-told
 enum-told c = search needs
 
 blanks-requires : tie.Need-blanks-requires
 blanks-requires c κs =
-    let a = c .before .before .before .before .before .before .before .before .args in
-    indent-by (a .self) (a .table .now) (a .text .now) (a .n .0) (a .by .0) (c .before .before .before .before .ask-indent .ensures) (c .before .before .enum-told .given .1)
+    let after-enum-told = c .before .before in
+    let after-ask-indent = after-enum-told .before .before in
+    let args = after-ask-indent .before .before .before .before .args in
+    indent-by (args .self) (args .table .now) (args .text .now) (args .n .0) (args .by .0) (after-ask-indent .ask-indent .ensures)
+    (after-enum-told .enum-told .given .1)
 
 enum-known-made : tie.Need-enum-known-made
 enum-known-made c = search needs
@@ -40,8 +46,12 @@ same-length-3 c = search needs
 
 returns-2 : tie.Need-returns-2
 returns-2 c =
-    let a = c .before .before .before .before .before .before .before .before .before .before .before .before .before .before .before .args in
-    indent-handed-on (a .self) (a .table .now) (a .text .now) (a .n .0) (a .by .0) (c .before .before .before .before .before .before .before .before .before .before .before .ask-indent .ensures) (c .before .before .before .before .before .before .before .before .before .enum-told .given .1) _ _ _ (c .before .before .before .before .before .before .blanks .ensures) (c .enum-told2 .given .1)
+    let after-blanks = c .before .before .before .before .before .before in
+    let after-enum-told = after-blanks .before .before .before in
+    let after-ask-indent = after-enum-told .before .before in
+    let args = after-ask-indent .before .before .before .before .args in
+    indent-handed-on (args .self) (args .table .now) (args .text .now) (args .n .0) (args .by .0) (after-ask-indent .ask-indent .ensures)
+    (after-enum-told .enum-told .given .1) _ _ _ (after-blanks .blanks .ensures) (c .enum-told2 .given .1)
 
 append-requires : tie.Need-append-requires
 append-requires c κs = search needs
@@ -57,8 +67,16 @@ same-length-5 c = search needs
 
 returns-3 : tie.Need-returns-3
 returns-3 c =
-    let a = c .before .before .before .before .before .before .before .before .before .before .before .before .before .before .before .before .before .before .before .before .before .before .before .before .before .before .args in
-    indent-went-on (a .self) (a .table .now) (a .text .now) (a .n .0) (a .by .0) (c .before .before .before .before .before .before .before .before .before .before .before .before .before .before .before .before .before .before .before .before .before .before .ask-indent .ensures) (c .before .before .before .before .before .before .before .before .before .before .before .before .before .before .before .before .before .before .before .before .enum-told .given .1) _ _ _ (c .before .before .before .before .before .before .before .before .before .before .before .before .before .before .before .before .before .blanks .ensures) (c .before .before .before .before .before .before .before .before .before .before .before .made .given .1) _ _ _ (c .before .before .before .before .before .before .before .append .ensures) (c .before .before .hung .ensures)
+    let after-hung = c .before .before in
+    let after-append = after-hung .before .before .before .before .before in
+    let after-made = after-append .before .before .before .before in
+    let after-blanks = after-made .before .before .before .before .before .before in
+    let after-enum-told = after-blanks .before .before .before in
+    let after-ask-indent = after-enum-told .before .before in
+    let args = after-ask-indent .before .before .before .before .args in
+    indent-went-on (args .self) (args .table .now) (args .text .now) (args .n .0) (args .by .0) (after-ask-indent .ask-indent .ensures)
+    (after-enum-told .enum-told .given .1) _ _ _ (after-blanks .blanks .ensures) (after-made .made .given .1) _ _ _ (after-append .append .ensures)
+    (after-hung .hung .ensures)
 
 pub indent-spec : {M : Type 1} → statement M
 indent-spec =

@@ -14,11 +14,15 @@ is-nil-requires c κs = search needs
 
 returns-2 : tie.Need-returns-2
 unfolding indentAdds
-returns-2 c = simp (ne-eqb _ _ (c .before .before .if1 .left), ← (c .before .is-nil .ensures), c .if2 .taken)
+returns-2 c =
+    let after-is-nil = c .before in
+    simp (ne-eqb _ _ (after-is-nil .before .if1 .left), ← (after-is-nil .is-nil .ensures), c .if2 .taken)
 
 returns-3 : tie.Need-returns-3
 unfolding indentAdds
-returns-3 c = simp (ne-eqb _ _ (c .before .before .if1 .left), ← (c .before .is-nil .ensures), c .if2 .left)
+returns-3 c =
+    let after-is-nil = c .before in
+    simp (ne-eqb _ _ (after-is-nil .before .if1 .left), ← (after-is-nil .is-nil .ensures), c .if2 .left)
 
 pub indent-adds-spec : {M : Type 1} → statement M
 indent-adds-spec = tie.close (tie.spec returns is-nil-requires returns-2 returns-3)

@@ -17,8 +17,9 @@ same-length-2 c = search needs
 returns : tie.Need-returns
 unfolding line
 returns c =
-    let a = c .before .before .before .before .before .before .before .before .before .args in
-    line-alone (a .self) (a .table .now) (a .text .now) space-one (c .before .before .before .before .broken-or-blank .ensures)
+    let after-broken-or-blank = c .before .before .before .before in
+    let args = after-broken-or-blank .before .before .before .before .before .args in
+    line-alone (args .self) (args .table .now) (args .text .now) space-one (after-broken-or-blank .broken-or-blank .ensures)
 
 pub line-spec : {M : Type 1} → statement M
 line-spec = tie.close (tie.spec broken-or-blank-requires same-length same-length-2 returns)

@@ -14,8 +14,9 @@ same-length c = search needs
 returns : tie.Need-returns
 unfolding line₀
 returns c =
-    let a = c .before .before .before .before .before .before .args in
-    line-alone (a .self) (a .table .now) (a .text .now) nil-one (c .before .before .broken-or-nil .ensures)
+    let after-broken-or-nil = c .before .before in
+    let args = after-broken-or-nil .before .before .before .before .args in
+    line-alone (args .self) (args .table .now) (args .text .now) nil-one (after-broken-or-nil .broken-or-nil .ensures)
 
 pub line--spec : {M : Type 1} → statement M
 line--spec = tie.close (tie.spec broken-or-nil-requires same-length returns)

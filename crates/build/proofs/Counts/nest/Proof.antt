@@ -14,8 +14,9 @@ same-length c = search needs
 returns : tie.Need-returns
 unfolding counted
 returns c =
-    let a = c .before .before .before .before .before .before .args in
-    nest-alone (a .self) (a .table .now) (a .text .now) (a .n .0) (a .amount .0) (a .way) (c .before .before .nest-before .ensures)
+    let after-nest-before = c .before .before in
+    let args = after-nest-before .before .before .before .before .args in
+    nest-alone (args .self) (args .table .now) (args .text .now) (args .n .0) (args .amount .0) (args .way) (after-nest-before .nest-before .ensures)
 
 pub nest-spec : {M : Type 1} → statement M
 nest-spec = tie.close (tie.spec nest-before-requires same-length returns)

@@ -25,11 +25,19 @@ same-length c = search needs
 returns : tie.Need-returns
 unfolding counted
 returns c =
-    let a = c .before .before .before .before .before .before .before .before .args in
-    nest-kept (a .self) (a .table .now) (a .text .now) (a .n .0) (a .amount .0) (a .way) (a .more) (sym (c .before .before .nest-stays .ensures) ∙ c .before .if1 .taken) (simp (← (c .before .before .before .before .before .has .ensures), ← (c .before .before .before .before .nest-right .ensures)) (older-settled (a .self) (a .table .now) (a .text .now) (c .before .before .before .before .before .has .result) (c .before .before .before .before .nest-right .result) (a .n) (a .more) (c .older .ensures)))
+    let then1 = c .before in
+    let after-nest-stays = then1 .before in
+    let after-nest-right = after-nest-stays .before .before in
+    let after-has = after-nest-right .before in
+    let args = after-has .before .before .before .args in
+    nest-kept (args .self) (args .table .now) (args .text .now) (args .n .0) (args .amount .0) (args .way) (args .more)
+    (sym (after-nest-stays .nest-stays .ensures) ∙ then1 .if1 .taken)
+    (simp (← (after-has .has .ensures), ← (after-nest-right .nest-right .ensures))
+    (older-settled (args .self) (args .table .now) (args .text .now) (after-has .has .result) (after-nest-right .nest-right .result) (args .n)
+    (args .more) (c .older .ensures)))
 
-add-node : tie.Need-add-node
-add-node c = search needs
+add-asks : tie.Need-add-asks
+add-asks c = search needs
 
 node-requires : tie.Need-node-requires
 node-requires c κs = search needs
@@ -40,8 +48,15 @@ same-length-2 c = search needs
 returns-2 : tie.Need-returns-2
 unfolding counted
 returns-2 c =
-    let a = c .before .before .before .before .before .before .before .before .before .before .before .args in
-    nest-wrapped (a .self) (a .table .now) (a .text .now) (a .n .0) (a .amount .0) (a .way) (a .more) (sym (c .before .before .before .before .before .nest-stays .ensures) ∙ c .before .before .before .before .if1 .left) (simp (← (c .before .before .before .before .before .before .before .before .has .ensures), ← (c .before .before .before .before .before .before .before .nest-right .ensures)) (c .before .before .node .ensures))
+    let after-node = c .before .before in
+    let else1 = after-node .before .before in
+    let after-nest-stays = else1 .before in
+    let after-nest-right = after-nest-stays .before .before in
+    let after-has = after-nest-right .before in
+    let args = after-has .before .before .before .args in
+    nest-wrapped (args .self) (args .table .now) (args .text .now) (args .n .0) (args .amount .0) (args .way) (args .more)
+    (sym (after-nest-stays .nest-stays .ensures) ∙ else1 .if1 .left)
+    (simp (← (after-has .has .ensures), ← (after-nest-right .nest-right .ensures)) (after-node .node .ensures))
 
 pub nest-before-spec : {M : Type 1} → statement M
 nest-before-spec =
@@ -53,7 +68,7 @@ nest-before-spec =
     older-requires
     same-length
     returns
-    add-node
+    add-asks
     node-requires
     same-length-2
     returns-2)

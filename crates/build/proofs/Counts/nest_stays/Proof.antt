@@ -10,7 +10,9 @@ returns : tie.Need-returns
 returns c = simp (← (c .before .is-nil .ensures), c .if1 .taken)
 
 returns-2 : tie.Need-returns-2
-returns-2 c = simp (← (c .before .before .is-nil .ensures), c .before .if1 .left)
+returns-2 c =
+    let else1 = c .before in
+    simp (← (else1 .before .is-nil .ensures), else1 .if1 .left)
 
 pub nest-stays-spec : {M : Type 1} → statement M
 nest-stays-spec = tie.close (tie.spec is-nil-requires returns returns-2)

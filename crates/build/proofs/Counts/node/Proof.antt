@@ -12,24 +12,35 @@ enum-known-asked c = search needs
 
 returns : tie.Need-returns
 returns c =
-    let a = c .before .before .before .before .before .before .args in
-    node-denied (a .self) (a .table .now) (a .text .now) (a .present) (a .amount) (a .k) (a .a) (a .b) (a .c) (a .nodes) (a .bytes) (c .before .before .before .ask .ensures) (c .before .asked .given .1)
+    let after-asked = c .before in
+    let after-ask = after-asked .before .before in
+    let args = after-ask .before .before .before .args in
+    node-denied (args .self) (args .table .now) (args .text .now) (args .asks) (args .words) (after-ask .ask .ensures) (after-asked .asked .given .1)
 
 enum-told : tie.Need-enum-told
 enum-told c = search needs
 
 add-requires : tie.Need-add-requires
 add-requires c κs =
-    let a = c .before .before .before .before .before .before .args in
-    node-room (a .self) (a .table .now) (a .text .now) (a .present) (a .amount) (a .k) (a .a) (a .b) (a .c) (a .nodes) (a .bytes) (c .before .before .before .before .before .before .pre) (c .before .before .before .ask .ensures) (c .before .enum-told .given .1)
+    let after-enum-told = c .before in
+    let after-ask = after-enum-told .before .before in
+    let start = after-ask .before .before .before in
+    let args = start .args in
+    node-room (args .self) (args .table .now) (args .text .now) (args .asks) (args .words) (start .pre) (after-ask .ask .ensures)
+    (after-enum-told .enum-told .given .1)
 
 same-length : tie.Need-same-length
 same-length c = search needs
 
 returns-2 : tie.Need-returns-2
 returns-2 c =
-    let a = c .before .before .before .before .before .before .before .before .before .args in
-    node-granted (a .self) (a .table .now) (a .text .now) (a .present) (a .amount) (a .k) (a .a) (a .b) (a .c) (a .nodes) (a .bytes) (c .before .before .before .before .before .before .before .before .before .pre) (c .before .before .before .before .before .before .ask .ensures) (c .before .before .before .before .enum-told .given .1) (c .before .before .add .ensures .0) (c .before .before .add .ensures .1)
+    let after-add = c .before .before in
+    let after-enum-told = after-add .before .before in
+    let after-ask = after-enum-told .before .before in
+    let start = after-ask .before .before .before in
+    let args = start .args in
+    node-granted (args .self) (args .table .now) (args .text .now) (args .asks) (args .words) (start .pre) (after-ask .ask .ensures)
+    (after-enum-told .enum-told .given .1) (after-add .add .ensures .0) (after-add .add .ensures .1)
 
 pub node-spec : {M : Type 1} → statement M
 node-spec =

@@ -11,7 +11,9 @@ enum-known-asked : tie.Need-enum-known-asked
 enum-known-asked c = search needs
 
 returns : tie.Need-returns
-returns c = rw (sym (c .before .before .before .ask .ensures) ∙ c .before .asked .given .1) refl
+returns c =
+    let after-asked = c .before in
+    rw (sym (after-asked .before .before .ask .ensures) ∙ after-asked .asked .given .1) refl
 
 enum-told : tie.Need-enum-told
 enum-told c = search needs

@@ -18,14 +18,19 @@ separators-requires c κs = search needs
 
 add-solid : tie.Need-add-solid
 add-solid c =
-    let a = c .before .before .before .before .args in
-    let b = solid-bound (take (a .self .nodes * 4) (a .table .now)) (a .separator .0) (a .nodes .now) (length (a .nodes .now) - 1) in omega (arith, c .before .solid .ensures, c .separators .ensures, c .before .before .before .before .good)
+    let after-solid = c .before in
+    let start = after-solid .before .before .before in
+    let args = start .args in
+    let b = solid-bound (take (args .self .nodes * 4) (args .table .now)) (args .separator .0) (args .nodes .now) (length (args .nodes .now) - 1) in
+    omega (arith, after-solid .solid .ensures, c .separators .ensures, start .good)
 
 less-one-requires : tie.Need-less-one-requires
 less-one-requires c κs = search needs
 
 returns : tie.Need-returns
-returns c = simp (← (c .before .before .solid .ensures), ← (c .before .separators .ensures)) (c .less-one .ensures)
+returns c =
+    let after-separators = c .before in
+    simp (← (after-separators .before .solid .ensures), ← (after-separators .separators .ensures)) (c .less-one .ensures)
 
 pub separated-adds-spec : {M : Type 1} → statement M
 separated-adds-spec =

@@ -25,8 +25,10 @@ same-length-2 c = search needs
 returns : tie.Need-returns
 unfolding line softline
 returns c =
-    let a = c .before .before .before .before .before .before .before .before .before .before .before .args in
-    soft-made (a .self) (a .table .now) (a .text .now) space-one _ _ _ (c .before .before .before .before .before .before .broken-or-blank .ensures) (rw (c .enum-told .given .1) refl)
+    let after-broken-or-blank = c .before .before .before .before .before .before in
+    let args = after-broken-or-blank .before .before .before .before .before .args in
+    soft-made (args .self) (args .table .now) (args .text .now) space-one _ _ _ (after-broken-or-blank .broken-or-blank .ensures)
+    (rw (c .enum-told .given .1) refl)
 
 group-requires : tie.Need-group-requires
 group-requires c κs = search needs
@@ -40,8 +42,12 @@ same-length-4 c = search needs
 returns-2 : tie.Need-returns-2
 unfolding line softline
 returns-2 c =
-    let a = c .before .before .before .before .before .before .before .before .before .before .before .before .before .before .before .before .before .args in
-    soft-made (a .self) (a .table .now) (a .text .now) space-one _ _ _ (c .before .before .before .before .before .before .before .before .before .before .before .before .broken-or-blank .ensures) (rw (c .before .before .before .before .before .before .line .given .1) (c .before .before .group .ensures))
+    let after-group = c .before .before in
+    let after-line = after-group .before .before .before .before in
+    let after-broken-or-blank = after-line .before .before .before .before .before .before in
+    let args = after-broken-or-blank .before .before .before .before .before .args in
+    soft-made (args .self) (args .table .now) (args .text .now) space-one _ _ _ (after-broken-or-blank .broken-or-blank .ensures)
+    (rw (after-line .line .given .1) (after-group .group .ensures))
 
 pub softline-spec : {M : Type 1} → statement M
 softline-spec =

@@ -22,8 +22,10 @@ same-length c = search needs
 returns : tie.Need-returns
 unfolding line₀ softline₀
 returns c =
-    let a = c .before .before .before .before .before .before .before .before .args in
-    soft-made (a .self) (a .table .now) (a .text .now) nil-one _ _ _ (c .before .before .before .before .broken-or-nil .ensures) (rw (c .enum-told .given .1) refl)
+    let after-broken-or-nil = c .before .before .before .before in
+    let args = after-broken-or-nil .before .before .before .before .args in
+    soft-made (args .self) (args .table .now) (args .text .now) nil-one _ _ _ (after-broken-or-nil .broken-or-nil .ensures)
+    (rw (c .enum-told .given .1) refl)
 
 group-requires : tie.Need-group-requires
 group-requires c κs = search needs
@@ -34,8 +36,12 @@ same-length-2 c = search needs
 returns-2 : tie.Need-returns-2
 unfolding line₀ softline₀
 returns-2 c =
-    let a = c .before .before .before .before .before .before .before .before .before .before .before .before .before .args in
-    soft-made (a .self) (a .table .now) (a .text .now) nil-one _ _ _ (c .before .before .before .before .before .before .before .before .before .broken-or-nil .ensures) (rw (c .before .before .before .before .before .line .given .1) (c .before .before .group .ensures))
+    let after-group = c .before .before in
+    let after-line = after-group .before .before .before in
+    let after-broken-or-nil = after-line .before .before .before .before in
+    let args = after-broken-or-nil .before .before .before .before .args in
+    soft-made (args .self) (args .table .now) (args .text .now) nil-one _ _ _ (after-broken-or-nil .broken-or-nil .ensures)
+    (rw (after-line .line .given .1) (after-group .group .ensures))
 
 pub softline--spec : {M : Type 1} → statement M
 softline--spec =

@@ -35,8 +35,14 @@ loop-less c = search needs
 
 loop-again : tie.Need-loop-again Inv-loop μ-loop
 loop-again c =
-    let e = count-skip (take (c .before .before .before .before .before .before .before .args .self .nodes * 4) (c .before .before .before .before .before .before .before .args .table .now)) (c .before .before .before .before .before .before .before .args .ns .now) (c .before .before .before .before .loop .i) (c .before .before .before .loop-test .taken) (sym (c .before .is-nil .ensures) ∙ c .if1 .taken) in
-    (omega arith, omega arith, omega (arith, c .before .before .before .before .loop .inv .2))
+    let after-is-nil = c .before in
+    let in-loop = after-is-nil .before .before in
+    let turn = in-loop .before in
+    let args = turn .before .before .before .args in
+    let e =
+    count-skip (take (args .self .nodes * 4) (args .table .now)) (args .ns .now) (turn .loop .i) (in-loop .loop-test .taken)
+    (sym (after-is-nil .is-nil .ensures) ∙ c .if1 .taken) in
+    (omega arith, omega arith, omega (arith, turn .loop .inv .2))
 
 add-count : tie.Need-add-count Inv-loop μ-loop
 add-count c = search needs
@@ -49,13 +55,21 @@ loop-less-2 c = search needs
 
 loop-again-2 : tie.Need-loop-again-2 Inv-loop μ-loop
 loop-again-2 c =
-    let e = count-next (take (c .before .before .before .before .before .before .before .args .self .nodes * 4) (c .before .before .before .before .before .before .before .args .table .now)) (c .before .before .before .before .before .before .before .args .ns .now) (c .before .before .before .before .loop .i) (c .before .before .before .loop-test .taken) (sym (c .before .is-nil .ensures) ∙ c .if1 .left) in
-    (omega arith, omega arith, omega (arith, c .before .before .before .before .loop .inv .2))
+    let after-is-nil = c .before in
+    let in-loop = after-is-nil .before .before in
+    let turn = in-loop .before in
+    let args = turn .before .before .before .args in
+    let e =
+    count-next (take (args .self .nodes * 4) (args .table .now)) (args .ns .now) (turn .loop .i) (in-loop .loop-test .taken)
+    (sym (after-is-nil .is-nil .ensures) ∙ c .if1 .left) in
+    (omega arith, omega arith, omega (arith, turn .loop .inv .2))
 
 returns : tie.Need-returns Inv-loop μ-loop
 returns c =
-    let e = count-end (take (c .before .before .before .before .args .self .nodes * 4) (c .before .before .before .before .args .table .now)) (c .before .before .before .before .args .ns .now) (c .before .loop .i) (c .loop-test .left) in
-    omega (arith, c .before .loop .inv .2)
+    let turn = c .before in
+    let args = turn .before .before .before .args in
+    let e = count-end (take (args .self .nodes * 4) (args .table .now)) (args .ns .now) (turn .loop .i) (c .loop-test .left) in
+    omega (arith, turn .loop .inv .2)
 
 pub solid-spec : {M : Type 1} → statement M
 solid-spec =

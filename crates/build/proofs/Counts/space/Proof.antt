@@ -19,7 +19,9 @@ same-length-2 c = search needs
 
 returns : tie.Need-returns
 unfolding columnsRight ascii
-returns c = c .before .before .before .before .text .ensures
+returns c =
+    let after-text = c .before .before .before .before in
+    after-text .text .ensures
 
 pub space-spec : {M : Type 1} → statement M
 space-spec =

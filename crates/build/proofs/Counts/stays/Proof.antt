@@ -1,16 +1,6 @@
 -- `stays`: which nodes Group gives back.
 use borrow.Author.Needs.{needs}
-use Prim.Native.Nat.{_+_, _-_, _*_, _≤_, _<_}
-use native.Mathlib.Omega.{arith}
-use mathlib.Core.Path.{_≡_, sym, ap, _∙_}
-use borrow.Author.Tests.{eq-eqb, ne-eqb, le-leb, lt-leb}
-use lib.ListN.{length, take, drop, length-take}
-use lib.Seq.{take-take}
-use Rattle.table.specs.Node.{word}
-use Rattle.buffer.specs.Utf8.{ascii}
-use Rattle.table.proofs.Unfolded.{part-same}
-use Rattle.build.specs.Draft.{counted}
-use Rattle.build.specs.Parts.{stays}
+use Rattle.build.proofs.Stays.{stays-nil, stays-group, stays-other, stays-unused, stays-past, stays-plain}
 use Rattle.build.proofs.Counts.stays.Statement.{statement}
 use Rattle.build.proofs.Counts.stays.Tie as tie
 
@@ -18,21 +8,26 @@ word-requires : tie.Need-word-requires
 word-requires c κs = search needs
 
 returns : tie.Need-returns
-unfolding stays counted
-returns c = simp (eq-eqb _ _ (sym (c .before .word .ensures) ∙ c .if1 .taken))
+returns c =
+    let after-word = c .before in
+    let args = after-word .before .before .before .args in
+    stays-nil (args .self) (args .table .now) (args .text .now) (args .n .0) (after-word .word .ensures) (c .if1 .taken)
 
 returns-2 : tie.Need-returns-2
-unfolding stays counted
 returns-2 c =
-    let at2 = c .before .before in
-    simp (ne-eqb _ _ (λ e. c .before .if1 .left (at2 .word .ensures ∙ e)), eq-eqb _ _ (sym (at2 .word .ensures) ∙ c .if2 .taken))
+    let else1 = c .before in
+    let after-word = else1 .before in
+    let args = after-word .before .before .before .args in
+    stays-group (args .self) (args .table .now) (args .text .now) (args .n .0) (after-word .word .ensures) (else1 .if1 .left) (c .if2 .taken)
 
 returns-3 : tie.Need-returns-3
-unfolding stays counted
 returns-3 c =
-    let at2 = c .before .before in
-    let at3 = at2 .before in
-    simp (ne-eqb _ _ (λ e. at2 .if1 .left (at3 .word .ensures ∙ e)), ne-eqb _ _ (λ e. c .before .if2 .left (at3 .word .ensures ∙ e)), ne-eqb _ _ (λ e. c .if3 .taken (at3 .word .ensures ∙ e)))
+    let else2 = c .before in
+    let else1 = else2 .before in
+    let after-word = else1 .before in
+    let args = after-word .before .before .before .args in
+    stays-other (args .self) (args .table .now) (args .text .now) (args .n .0) (after-word .word .ensures) (else1 .if1 .left) (else2 .if2 .left)
+    (c .if3 .taken)
 
 word-requires-2 : tie.Need-word-requires-2
 word-requires-2 c κs = search needs
@@ -53,24 +48,28 @@ cast-if4 : tie.Need-cast-if4
 cast-if4 c = search needs
 
 returns-4 : tie.Need-returns-4
-unfolding stays counted
 returns-4 c =
-    let table = take (c .before .before .before .before .before .before .before .before .before .before .args .self .nodes * 4) (c .before .before .before .before .before .before .before .before .before .before .args .table .now) in
-    let o = word table (c .before .before .before .before .before .before .before .before .before .before .args .n .0) 1 in
-    let l = word table (c .before .before .before .before .before .before .before .before .before .before .args .n .0) 2 in
-    let used = take (c .before .before .before .before .before .before .before .before .before .before .args .self .bytes) (c .before .before .before .before .before .before .before .before .before .before .args .text .now) in
-    let out : length used < o + l = simp length-take (omega (arith, c .before .before .before .word2 .ensures, c .before .before .word3 .ensures, c .if4 .taken)) in
-    simp (ne-eqb _ _ (λ e. c .before .before .before .before .before .before .if1 .left (c .before .before .before .before .before .before .before .word .ensures ∙ e)), ne-eqb _ _ (λ e. c .before .before .before .before .before .if2 .left (c .before .before .before .before .before .before .before .word .ensures ∙ e)), eq-eqb _ _ (sym (c .before .before .before .before .before .before .before .word .ensures) ∙ c .before .before .before .before .if3 .left), lt-leb (o + l) (length used) out)
+    let after-word3 = c .before .before in
+    let after-word2 = after-word3 .before in
+    let else3 = after-word2 .before in
+    let else2 = else3 .before in
+    let else1 = else2 .before in
+    let after-word = else1 .before in
+    let args = after-word .before .before .before .args in
+    stays-unused (args .self) (args .table .now) (args .text .now) (args .n .0) (after-word .word .ensures) (else1 .if1 .left) (else2 .if2 .left)
+    (else3 .if3 .left) (after-word2 .word2 .ensures) (after-word3 .word3 .ensures) (c .if4 .taken)
 
 returns-5 : tie.Need-returns-5
-unfolding stays counted
 returns-5 c =
-    let table = take (c .before .before .before .before .before .before .before .before .before .before .before .args .self .nodes * 4) (c .before .before .before .before .before .before .before .before .before .before .before .args .table .now) in
-    let o = word table (c .before .before .before .before .before .before .before .before .before .before .before .args .n .0) 1 in
-    let l = word table (c .before .before .before .before .before .before .before .before .before .before .before .args .n .0) 2 in
-    let used = take (c .before .before .before .before .before .before .before .before .before .before .before .args .self .bytes) (c .before .before .before .before .before .before .before .before .before .before .before .args .text .now) in
-    let out : length used < o + l = simp length-take (omega (arith, c .before .before .before .before .word2 .ensures, c .before .before .before .word3 .ensures, c .if5 .taken)) in
-    simp (ne-eqb _ _ (λ e. c .before .before .before .before .before .before .before .if1 .left (c .before .before .before .before .before .before .before .before .word .ensures ∙ e)), ne-eqb _ _ (λ e. c .before .before .before .before .before .before .if2 .left (c .before .before .before .before .before .before .before .before .word .ensures ∙ e)), eq-eqb _ _ (sym (c .before .before .before .before .before .before .before .before .word .ensures) ∙ c .before .before .before .before .before .if3 .left), lt-leb (o + l) (length used) out)
+    let after-word3 = c .before .before .before in
+    let after-word2 = after-word3 .before in
+    let else3 = after-word2 .before in
+    let else2 = else3 .before in
+    let else1 = else2 .before in
+    let after-word = else1 .before in
+    let args = after-word .before .before .before .args in
+    stays-past (args .self) (args .table .now) (args .text .now) (args .n .0) (after-word .word .ensures) (else1 .if1 .left) (else2 .if2 .left)
+    (else3 .if3 .left) (after-word2 .word2 .ensures) (after-word3 .word3 .ensures) (c .if5 .taken)
 
 sub-below-128 : tie.Need-sub-below-128
 sub-below-128 c = search needs
@@ -85,18 +84,18 @@ below-128-requires : tie.Need-below-128-requires
 below-128-requires c κs = search needs
 
 returns-6 : tie.Need-returns-6
-unfolding stays counted
 returns-6 c =
-    let table = take (c .before .before .before .before .before .before .before .before .before .before .before .before .before .args .self .nodes * 4) (c .before .before .before .before .before .before .before .before .before .before .before .before .before .args .table .now) in
-    let o = word table (c .before .before .before .before .before .before .before .before .before .before .before .before .before .args .n .0) 1 in
-    let l = word table (c .before .before .before .before .before .before .before .before .before .before .before .before .before .args .n .0) 2 in
-    let used = take (c .before .before .before .before .before .before .before .before .before .before .before .before .before .args .self .bytes) (c .before .before .before .before .before .before .before .before .before .before .before .before .before .args .text .now) in
-    let within : o + l ≤ c .before .before .before .before .before .before .before .before .before .before .before .before .before .args .self .bytes = omega (arith, c .before .before .before .before .before .before .word2 .ensures, c .before .before .before .before .before .word3 .ensures, c .before .before .before .if4 .left) in
-    let inside : o + l ≤ length used = simp length-take (omega (arith, c .before .before .before .before .before .before .word2 .ensures, c .before .before .before .before .before .word3 .ensures, c .before .before .if5 .left)) in
-    let same : take l (drop o used) ≡ take l (drop o (c .before .before .before .before .before .before .before .before .before .before .before .before .before .args .text .now)) = part-same (c .before .before .before .before .before .before .before .before .before .before .before .before .before .args .self .bytes) o l used (c .before .before .before .before .before .before .before .before .before .before .before .before .before .args .text .now) (take-take (c .before .before .before .before .before .before .before .before .before .before .before .before .before .args .self .bytes) (c .before .before .before .before .before .before .before .before .before .before .before .before .before .args .self .bytes) (c .before .before .before .before .before .before .before .before .before .before .before .before .before .args .text .now) (omega arith)) within in
-    let size : c .before .before .before .before .before .before .word2 .result + c .before .before .before .before .before .word3 .result - c .before .before .before .before .before .before .word2 .result ≡ l = omega (arith, c .before .before .before .before .before .word3 .ensures) in
-    let read : take (c .before .before .before .before .before .before .word2 .result + c .before .before .before .before .before .word3 .result - c .before .before .before .before .before .before .word2 .result) (drop (c .before .before .before .before .before .before .word2 .result) (c .before .before .before .before .before .before .before .before .before .before .before .before .before .args .text .now)) ≡ take l (drop o used) = rw (size, c .before .before .before .before .before .before .word2 .ensures) (sym same) in
-    simp (ne-eqb _ _ (λ e. c .before .before .before .before .before .before .before .before .before .if1 .left (c .before .before .before .before .before .before .before .before .before .before .word .ensures ∙ e)), ne-eqb _ _ (λ e. c .before .before .before .before .before .before .before .before .if2 .left (c .before .before .before .before .before .before .before .before .before .before .word .ensures ∙ e)), eq-eqb _ _ (sym (c .before .before .before .before .before .before .before .before .before .before .word .ensures) ∙ c .before .before .before .before .before .before .before .if3 .left), le-leb (o + l) (length used) inside) (c .below-128 .ensures ∙ ap ascii read)
+    let else5 = c .before .before in
+    let else4 = else5 .before in
+    let after-word3 = else4 .before .before in
+    let after-word2 = after-word3 .before in
+    let else3 = after-word2 .before in
+    let else2 = else3 .before in
+    let else1 = else2 .before in
+    let after-word = else1 .before in
+    let args = after-word .before .before .before .args in
+    stays-plain (args .self) (args .table .now) (args .text .now) (args .n .0) (after-word .word .ensures) (else1 .if1 .left) (else2 .if2 .left)
+    (else3 .if3 .left) (after-word2 .word2 .ensures) (after-word3 .word3 .ensures) (else4 .if4 .left) (else5 .if5 .left) (c .below-128 .ensures)
 
 pub stays-spec : {M : Type 1} → statement M
 stays-spec =

@@ -19,13 +19,13 @@ add-at c = search needs
 
 returns : tie.Need-returns
 returns c =
-    let start = c .before .before in
-    word-out (start .args .table .now) (start .args .self .nodes * 4) (start .args .n .0 * 4 + start .args .i) (omega arith)
+    let args = c .before .before .args in
+    word-out (args .table .now) (args .self .nodes * 4) (args .n .0 * 4 + args .i) (omega arith)
 
 returns-2 : tie.Need-returns-2
 returns-2 c =
-    let start = c .before .before .before in
-    word-past (start .args .table .now) (start .args .self .nodes * 4) (start .args .n .0 * 4 + start .args .i) (c .if2 .taken)
+    let args = c .before .before .before .args in
+    word-past (args .table .now) (args .self .nodes * 4) (args .n .0 * 4 + args .i) (c .if2 .taken)
 
 mul-result : tie.Need-mul-result
 mul-result c = search needs
@@ -35,8 +35,8 @@ shared-slice-read-result c = search needs
 
 returns-3 : tie.Need-returns-3
 returns-3 c =
-    let start = c .before .before .before .before in
-    sym (getD-take (start .args .self .nodes * 4) (start .args .table .now) (start .args .n .0 * 4 + start .args .i) 0 (omega arith))
+    let args = c .before .before .before .before .args in
+    sym (getD-take (args .self .nodes * 4) (args .table .now) (args .n .0 * 4 + args .i) 0 (omega arith))
 
 pub word-spec : {M : Type 1} → statement M
 word-spec =

@@ -20,7 +20,10 @@ same-length : tie.Need-same-length
 same-length c = search needs
 
 returns-2 : tie.Need-returns-2
-returns-2 c = rw (c .before .before .before .before .before .made .given .1) (c .before .before .flat-alt .ensures)
+returns-2 c =
+    let after-flat-alt = c .before .before in
+    let after-made = after-flat-alt .before .before .before in
+    rw (after-made .made .given .1) (after-flat-alt .flat-alt .ensures)
 
 pub or-flat-spec : {M : Type 1} → statement M
 or-flat-spec = tie.close (tie.spec enum-known-made enum-told returns flat-alt-requires same-length returns-2)

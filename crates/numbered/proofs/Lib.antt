@@ -1,4 +1,0 @@
--- Laws that the proofs cite.
-pub mod Flags
-pub mod Making
-pub mod Unique

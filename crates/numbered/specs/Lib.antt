@@ -1,2 +1,0 @@
--- What the constructors and block layouts by number promise.
-pub mod Building

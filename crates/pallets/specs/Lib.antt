@@ -1,4 +1,0 @@
--- What a chest's test results say.
-pub mod Numbers
-pub mod Lines
-pub mod Pallets

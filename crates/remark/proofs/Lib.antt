@@ -1,2 +1,0 @@
--- The laws of a row's remark, with no code in sight.
-mod Remarks

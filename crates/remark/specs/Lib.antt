@@ -1,2 +1,0 @@
--- What a row with its remark is: its document.
-pub mod Documents

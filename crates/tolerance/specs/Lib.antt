@@ -1,3 +1,0 @@
--- What is within tolerance, and how the lines of an input stand to it.
-pub mod Tolerance
-pub mod Standing
