@@ -13,7 +13,7 @@ use lib.Dec.{eqb, ltb}
 use borrow.Author.Tests.{eq-eqb, ne-eqb, lt-ltb, le-ltb}
 use Rattle.choice.specs.Pick.{pick}
 use Rattle.table.specs.Fault.{check}
-use Rattle.table.specs.Unfold.{tree, root}
+use Rattle.table.specs.Unfold.{Tree, tree, root}
 use Rattle.rules.specs.Layout.{Limits, other, Outcome, report}
 use Rattle.rules.specs.Layout as layout
 use Rattle.rules.specs.Call.{Given, buffersRight, limits}
@@ -50,7 +50,7 @@ run-why g step e z = rw (e, eq-eqb _ _ z)
 
 -- ---- which run
 
-module _ (L : Limits) (t : layout.Tree) where
+module _ (L : Limits) (t : Tree) where
   step-none : whyRun L t 0 ≡ whyRefused 13
   unfolding whyRun
   step-none = refl
@@ -82,11 +82,11 @@ module _ {T tx out ev w : List ℕ} {W : ℕ} (st : Start T tx out ev w W (lengt
   answer-is k r out′ ev′ p =
       sym (ap (λ x. x .answer) (p .same ∙ layout-is T tx (envOf T tx out ev W k .limits) N (st .some) (st .small) (st .valid) (st .room)))
 
-  pub asked-none : (r : Answer) → whyOf r ≡ whyRefused 13 → step ≡ 0 → Asked T tx out ev W limit N step r
+  pub asked-none : (r : Answer) → whyOf r ≡ whyRefused 13 → step ≡ 0 → Asked T tx out ev W limit step r
   asked-none r e z = e ∙ sym (step-none L (tree T tx (N - 1))) ∙ ap (whyRun L (tree T tx (N - 1))) (sym z)
 
   pub asked-past : (e : End) (out′ ev′ : List ℕ) → limit < step → Laid T tx out ev W limit N e out′ ev′
-      → (r : Answer) → whyOf r ≡ whyRefused (pick (eqb (e .answer) 0) 13 (e .answer)) → Asked T tx out ev W limit N step r
+      → (r : Answer) → whyOf r ≡ whyRefused (pick (eqb (e .answer) 0) 13 (e .answer)) → Asked T tx out ev W limit step r
   asked-past e out′ ev′ less p r same =
       same
       ∙ ap (λ a. whyRefused (pick (eqb a 0) 13 a)) (sym (answer-is limit e out′ ev′ p))
@@ -108,11 +108,11 @@ module _ {T tx out ev w : List ℕ} {W : ℕ} (st : Start T tx out ev w W (lengt
           visit-ended W (whole (step - 1)) (e .answer) (answer-is (step - 1) e out′ ev′ laid)
           (λ seven. ap (λ z. z .due) (stops-is (envOf T tx out ev W (step - 1)) N (st .some) (st .small) (st .valid) (st .room) (ends seven)))
 
-      pub asked-fit : (r : Answer) → whyOf r ≡ whyRefused 13 → e .answer ≡ 7 → Asked T tx out ev W limit N step r
+      pub asked-fit : (r : Answer) → whyOf r ≡ whyRefused 13 → e .answer ≡ 7 → Asked T tx out ev W limit step r
       asked-fit r same seven =
           same ∙ ap (λ b. whyRefused (pick b 13 (pick (eqb (e .answer) 0) 13 (e .answer)))) (sym (eq-eqb (e .answer) 7 seven)) ∙ sym ended-visit ∙ sym visit-is
 
-      pub asked-ended : (r : Answer) → whyOf r ≡ whyRefused (pick (eqb (e .answer) 0) 13 (e .answer)) → (e .answer ≡ 7 → ⊥) → Asked T tx out ev W limit N step r
+      pub asked-ended : (r : Answer) → whyOf r ≡ whyRefused (pick (eqb (e .answer) 0) 13 (e .answer)) → (e .answer ≡ 7 → ⊥) → Asked T tx out ev W limit step r
       asked-ended r same ne =
           same ∙ ap (λ b. whyRefused (pick b 13 (pick (eqb (e .answer) 0) 13 (e .answer)))) (sym (ne-eqb (e .answer) 7 ne)) ∙ sym ended-visit ∙ sym visit-is
 
@@ -123,5 +123,5 @@ module _ {T tx out ev w : List ℕ} {W : ℕ} (st : Start T tx out ev w W (lengt
       pub asked-visiting : length w′ ≡ length w → Visiting T w′ W s h
       asked-visiting size = visiting st (step - 1) halted (omega (arith, st .area))
 
-      pub asked-due : (r : Answer) → Visited T w′ W s h r → Asked T tx out ev W limit N step r
+      pub asked-due : (r : Answer) → Visited T w′ W s h r → Asked T tx out ev W limit step r
       asked-due r v = due-told st (step - 1) halted r v ∙ sym visit-is

@@ -25,6 +25,7 @@ known : WhyReport → Answer
 known w = named (w .reason) (w .answer) (w .node) (w .column)
 
 named-is : (r : Answer) → known (whyOf r) ≡ r
+unfolding known named
 named-is (Refused a) = refl
 named-is (Told (AtFail n c)) = refl
 named-is (Told (HardlineInside n c)) = refl

@@ -1,10 +1,10 @@
 -- What the call promises: the answer or the reason is the rules' definition of `why`, and every lent buffer ends zero.
 -- Assumes nothing.
 use mathlib.Core.Path.{_≡_}
-use Prim.Native.Nat.{ℕ, _+_, _-_, _*_, _/_, _≤_, _<_}
+use Prim.Native.Nat.{ℕ, _+_, _*_, _/_, _≤_, _<_}
 use mathlib.Core.List.{List}
 use lib.ListN.{length, replicate, getD}
-use Rattle.table.specs.Unfold.{tree}
+use Rattle.table.specs.Unfold.{tree, root}
 use Rattle.table.specs.Sound.{AllSound}
 use Rattle.rules.specs.Call.{Given}
 use Rattle.rules.specs.Why.{WhyReport, whyRefused, told, reason, whyRun}
@@ -36,9 +36,9 @@ pub record WhyCalled (g : Given) (words step : ℕ) (r : Answer) (out events wor
 abbrev pub Decided : Given → ℕ → Answer → Type 0
 Decided g step r = whyOf r ≡ rules.why g step
 
--- a valid table of N nodes
-abbrev pub Asked : List ℕ → List ℕ → List ℕ → List ℕ → ℕ → ℕ → ℕ → ℕ → Answer → Type 0
-Asked T tx out ev W limit N step r = whyOf r ≡ whyRun (envOf T tx out ev W limit .limits) (tree T tx (N - 1)) step
+-- of a valid table
+abbrev pub Asked : List ℕ → List ℕ → List ℕ → List ℕ → ℕ → ℕ → ℕ → Answer → Type 0
+Asked T tx out ev W limit step r = whyOf r ≡ whyRun (envOf T tx out ev W limit .limits) (tree T tx (root T)) step
 
 -- ---- the visit
 

@@ -12,11 +12,12 @@ use summary::Reason;
 use table::NodeNo;
 use waiting::Due;
 ghost use mathlib.Core.Path.{_≡_};
+ghost use Prim.Native.Nat.{_/_};
 ghost use lib.ListN.{length};
 ghost use lib.Dec.{eqb};
 ghost use Rattle.choice.specs.Pick.{pick};
 ghost use Rattle.rules.specs.Why.{whyRefused};
-ghost use Rattle.layout.specs.Called.{given};
+ghost use Rattle.layout.specs.Called.{lent};
 ghost use Rattle.render.specs.Visit.{Start};
 ghost use Rattle.why.specs.Promise.{whyOf, Visiting, Visited, Asked, Decided, WhyCalled};
 
@@ -67,11 +68,11 @@ fn ask(
     out: &mut [u8],
     events: &mut [u32],
     work: &mut [u32],
-    nodes: u32,
 ) -> Answer
-    requires { ⌜ Start (now table) (now text) (now out) (now events) (now work) width nodes ⌝ }
-    ensures { λ r. ⌜ Asked (now (table .entry)) (now (text .entry)) (now (out .entry)) (now (events .entry)) width limit nodes step r ⌝ }
+    requires { ⌜ Start (now table) (now text) (now out) (now events) (now work) width (length (now table) / 4) ⌝ }
+    ensures { λ r. ⌜ Asked (now (table .entry)) (now (text .entry)) (now (out .entry)) (now (events .entry)) width limit step r ⌝ }
 {
+    let nodes = (table.len() / 4) as u32;
     if step == 0 {
         return Answer::Refused(NO_VISIT);
     }
@@ -102,8 +103,9 @@ fn decide(
     events: &mut [u32],
     work: &mut [u32],
 ) -> Answer
-    ensures { λ r. ⌜ Decided (given (now (table .entry)) (now (text .entry)) width limit
-        (length (now (out .entry))) (length (now (events .entry))) (length (now (work .entry)))) step r ⌝ }
+    ensures { λ r. ⌜ Decided
+        (lent (now (table .entry)) (now (text .entry)) width limit (now (out .entry)) (now (events .entry)) (now (work .entry)))
+        step r ⌝ }
 {
     if !layout::buffers_right(out.len(), events.len(), work.len(), width, limit) {
         return Answer::Refused(1);
@@ -112,8 +114,7 @@ fn decide(
     if fault.answer != 0 {
         return Answer::Refused(fault.answer);
     }
-    let nodes = (table.len() / 4) as u32;
-    ask(table, text, width, limit, step, out, events, work, nodes)
+    ask(table, text, width, limit, step, out, events, work)
 }
 
 // Why the Group that is visited at this step goes flat or broken.
@@ -127,8 +128,9 @@ pub fn why(
     events: &mut [u32],
     work: &mut [u32],
 ) -> Answer
-    ensures { λ r. ⌜ WhyCalled (given (now (table .entry)) (now (text .entry)) width limit
-        (length (now (out .entry))) (length (now (events .entry))) (length (now (work .entry)))) (length (now (events .entry))) step
+    ensures { λ r. ⌜ WhyCalled
+        (lent (now (table .entry)) (now (text .entry)) width limit (now (out .entry)) (now (events .entry)) (now (work .entry)))
+        (length (now (events .entry))) step
         r (now (out .exit)) (now (events .exit)) (now (work .exit)) ⌝ }
 {
     let answer = decide(table, text, width, limit, step, out, events, work);
