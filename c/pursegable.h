@@ -35,9 +35,9 @@ extern "C" {
  *
  * A program that defines PURSEGABLE_WRITTEN_FOR as a major number before it includes this header doesn't compile with another. */
 #define PURSEGABLE_VERSION_MAJOR 1
-#define PURSEGABLE_VERSION_MINOR 1
+#define PURSEGABLE_VERSION_MINOR 2
 #define PURSEGABLE_VERSION_PATCH 0
-#define PURSEGABLE_VERSION "1.1.0"
+#define PURSEGABLE_VERSION "1.2.0"
 
 #if defined(PURSEGABLE_WRITTEN_FOR) && PURSEGABLE_WRITTEN_FOR != PURSEGABLE_VERSION_MAJOR
 #error "this program was written for another major version of pursegable: CHANGELOG.md says what changed"
@@ -57,7 +57,7 @@ enum {
     PURSEGABLE_BAD_KIND = 2,     /* unknown kind, or an unused word not 0; constructors: unknown constructor */
     PURSEGABLE_BAD_CHILD = 3,    /* a child not below its parent; an amount above 1,000, or a way above 1 */
     PURSEGABLE_BAD_RANGE = 4,    /* a text's range leaves the text bytes */
-    PURSEGABLE_BAD_TEXT = 5,     /* a text not well-formed UTF-8, or its columns wrong */
+    PURSEGABLE_BAD_TEXT = 5,     /* a text not well-formed UTF-8, with a line feed in it, or its columns wrong */
     PURSEGABLE_FAIL_MET = 6,     /* Fail met outside every trial */
     PURSEGABLE_NO_STEPS = 7,     /* a node is due and the steps equal the limit */
     PURSEGABLE_NO_OUTPUT = 8,    /* bytes don't fit the output */
@@ -83,7 +83,7 @@ static inline const char *pursegable_answer_text(uint32_t answer)
     case PURSEGABLE_BAD_RANGE:
         return "a text's range leaves the text bytes";
     case PURSEGABLE_BAD_TEXT:
-        return "a text is not well-formed UTF-8, or its columns are wrong";
+        return "a text is not well-formed UTF-8, has a line feed in it, or its columns are wrong";
     case PURSEGABLE_FAIL_MET:
         return "a Fail was met outside every trial";
     case PURSEGABLE_NO_STEPS:
@@ -136,7 +136,7 @@ static inline const char *pursegable_answer_text(uint32_t answer)
  * ends with a Nil, and is laid out as nothing, with answer 0.
  *
  * A Text whose bytes are all below 128 has as many columns as bytes; with other bytes, any number from 0 to its bytes. Its bytes are
- * written as they stand. A line feed (byte 10) in a Text is accepted and is no Hardline: the column goes on behind it. */
+ * written as they stand. A Text with a line feed (byte 10) in it is refused, answer 5: every line feed in the output is a Hardline's. */
 enum {
     PURSEGABLE_NIL = 0,       /* nothing */
     PURSEGABLE_APPEND = 1,    /* a first, b second */

@@ -82,7 +82,10 @@ fn spoil(random: &mut Random, call: &mut Call) {
             let more = random.below(4 * 1025);
             call.table.words.extend(std::iter::repeat_n(0, more));
         }
-        2 => call.table.text.resize(*random.of(&[0, 1, 65_536, 65_537, 70_000]), b'x'),
+        2 => {
+            let filled = *random.of(b"x\n");
+            call.table.text.resize(*random.of(&[0, 1, 65_536, 65_537, 70_000]), filled);
+        }
         3 => call.width = *random.of(&[65_535, 65_536, u32::MAX]),
         4 => call.limit = *random.of(&[0, 100_000_000, 100_000_001, u32::MAX]),
         5 => call.room = *random.of(&[0, 1, 65_536, 65_537]),
@@ -91,7 +94,8 @@ fn spoil(random: &mut Random, call: &mut Call) {
         8 => call.report = random.below(9),
         9 if !call.table.text.is_empty() => {
             let at = random.below(call.table.text.len());
-            call.table.text[at] = random.draw() as u8;
+            // a line feed is wrong in a Text, and right outside of every Text
+            call.table.text[at] = if random.one_in(3) { b'\n' } else { random.draw() as u8 };
         }
         10 if words >= 4 => {
             let at = 4 * random.below(words / 4);

@@ -148,9 +148,11 @@ fn fault_of(n: u32, node: &[u32], text: &[u8]) -> Option<u32> {
     None
 }
 
-/// Well-formed, and the columns equal the length if all bytes are below 128, else are at most the length.
+/// Well-formed and without a line feed, and the columns equal the length if all bytes are below 128, else are at most the length.
 pub fn columns_right(bytes: &[u8], columns: usize) -> bool {
-    if bytes.is_ascii() {
+    if bytes.contains(&b'\n') {
+        false
+    } else if bytes.is_ascii() {
         columns == bytes.len()
     } else {
         std::str::from_utf8(bytes).is_ok() && columns <= bytes.len()

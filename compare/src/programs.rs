@@ -104,7 +104,7 @@ pub fn wild_make(random: &mut Random, nodes: usize) -> Make {
                 return Make::Text(bytes, *random.of(&[0, 1, columns.wrapping_add(1), u32::MAX]));
             }
             let at = random.below(bytes.len());
-            bytes[at] = random.draw() as u8;
+            bytes[at] = if random.one_in(3) { b'\n' } else { random.draw() as u8 };
             Make::Text(bytes, columns)
         }
         other => other,

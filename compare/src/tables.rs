@@ -89,7 +89,7 @@ impl Table {
             TEXT => {
                 let bytes = &self.text[node[1] as usize..][..node[2] as usize];
                 let columns = if bytes.is_ascii() { String::new() } else { format!(" of {} columns", node[3]) };
-                format!("`{}`{columns}", String::from_utf8_lossy(bytes))
+                format!("`{}`{columns}", shown(bytes))
             }
             ANNOTATED => format!("Annotated {}({})", node[2], child(1)),
             UNION => format!("Union({}, {})", child(1), child(2)),

@@ -31,7 +31,7 @@ pub enum Refusal {
     BadChild,
     /// 4: a text's range leaves the text bytes.
     BadRange,
-    /// 5: a text is not well-formed UTF-8, or its columns are wrong.
+    /// 5: a text is not well-formed UTF-8, has a line feed in it, or its columns are wrong.
     BadText,
     /// 6: a Fail was met outside every trial.
     FailMet,
@@ -119,7 +119,7 @@ impl Refusal {
             Refusal::BadKind => "a kind is unknown, or an unused word is not 0",
             Refusal::BadChild => "a child is not below its parent, or an amount is out of range",
             Refusal::BadRange => "a text's range leaves the text bytes",
-            Refusal::BadText => "a text is not well-formed UTF-8, or its columns are wrong",
+            Refusal::BadText => "a text is not well-formed UTF-8, has a line feed in it, or its columns are wrong",
             Refusal::FailMet => "a Fail was met outside every trial",
             Refusal::NoSteps => "a node is due and the steps are used up",
             Refusal::NoOutput => "the bytes don't fit the output",

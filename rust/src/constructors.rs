@@ -86,7 +86,7 @@ impl<'a> Draft<'a> {
     }
 
     /// A Text, a column to a character; of no characters a Nil. A character that is wider or narrower than a column needs
-    /// [`text_columns`](Draft::text_columns). A line feed in it is accepted and is no Hardline: the column goes on behind it.
+    /// [`text_columns`](Draft::text_columns). A line feed in it is refused: a Hardline ends a line.
     ///
     /// # Errors
     ///

@@ -43,7 +43,7 @@ mod tell {
         assert!(differs, "{} does not differ", known.name);
         vec![
             format!("    {}, width {}", table.said(), known.call.width),
-            format!("    {} over {:?}", table.written(), shown(&table.text)),
+            format!("    {} over \"{}\"", table.written(), shown(&table.text)),
             format!(
                 "    01 and we: answer {}, {} steps{}",
                 report.answer,

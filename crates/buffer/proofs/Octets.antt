@@ -1,6 +1,7 @@
 -- The laws of octets that the readers of text bytes lean on.
 --     owed-start, ascii-well           an octet that starts a character; bytes below 128 are well-formed
---     ascii-more, ascii-part, ascii-short    all below 128: one octet more; a part of the text; the front of a part
+--     every-none, every-more, every-same, every-part, every-short, every-both    a test of every octet: of none; one octet more; one octet over and over; a part of the text; the front of a part; two tests at once
+--     plain-part, plain-short, plain-both     the same of plain octets; plain is below 128 and without a line feed
 --     start-same                       first octets between two bounds owe the same
 --     owed-first, owed-outside, owed-next, owed-end, owed-read, owed-low   one octet of what is owed; the end; an octet read; one below 128 read
 -- Assumes nothing.
@@ -8,13 +9,13 @@ use Prim.Native.Nat.{ℕ, zero, suc, _+_, _-_, _≤_, _<_}
 use native.Mathlib.Omega.{arith}
 use native.Mathlib.Numerals.{add-one}
 use mathlib.Core.Path.{_≡_, refl, sym, ap, ap₂, _∙_}
-use mathlib.Core.Bool.{Bool, true, false, _&&_, _||_}
+use mathlib.Core.Bool.{Bool, true, false, not, _&&_, _||_}
 use mathlib.Core.List.{List, [], _∷_, _++_}
 use lib.ListN.{length, getD, take, drop, replicate}
 use lib.Seq.{take-suc, take-take, drop-cons}
 use lib.Dec.{eqb, ltb, leb, eqb·suc-zero}
 use borrow.Author.Tests.{ltb-true, leb-true, le-leb, lt-leb}
-use Rattle.buffer.specs.Utf8.{Range, to, within, tail, Start, start, follow, never, owed, wellFormed, ascii}
+use Rattle.buffer.specs.Utf8.{Range, to, within, tail, Start, start, follow, never, owed, wellFormed, every, ascii, noFeed, plain}
 use Rattle.buffer.specs.Reader.{owing, ranges, starts, goesOn, GoesOn}
 use Rattle.buffer.specs.declared.utf8.Owing.{Owing}
 use Rattle.buffer.specs.declared.utf8.Next.{Next}
@@ -30,7 +31,7 @@ owed-start b bs rs e = ap (λ (s : Start). elim s as (λ x. Bool) [ follow qs �
 
 -- bytes below 128 are well-formed
 pub ascii-well : (bs : List ℕ) → ascii bs ≡ true → wellFormed bs ≡ true
-unfolding ascii wellFormed
+unfolding ascii every wellFormed
 ascii-well [] e = unfold owed in refl
 ascii-well (b ∷ bs) e =
     let p = and-true (ltb b 128) (ascii bs) e in
@@ -38,42 +39,82 @@ ascii-well (b ∷ bs) e =
     let s : start b ≡ follow [] = rw (le-leb 0 b (omega arith), le-leb b 127 h) in
     owed-start b bs [] s ∙ ascii-well bs (p .1)
 
--- ---- all below 128
+-- ---- every octet passes a test
 
 and-assoc : (p q r : Bool) → (p && q) && r ≡ p && (q && r)
 and-assoc true q r = refl
 and-assoc false q r = refl
 
-ascii-append : (xs ys : List ℕ) → ascii (xs ++ ys) ≡ ascii xs && ascii ys
-unfolding ascii
-ascii-append [] ys = refl
-ascii-append (x ∷ xs) ys = ap (λ (p : Bool). ltb x 128 && p) (ascii-append xs ys) ∙ sym (and-assoc (ltb x 128) (ascii xs) (ascii ys))
+module _ (f : ℕ → Bool) where
+  every-append : (xs ys : List ℕ) → every f (xs ++ ys) ≡ every f xs && every f ys
+  unfolding every
+  every-append [] ys = refl
+  every-append (x ∷ xs) ys = ap (λ (p : Bool). f x && p) (every-append xs ys) ∙ sym (and-assoc (f x) (every f xs) (every f ys))
 
-pub ascii-more : (s : List ℕ) (i : ℕ) → i < length s → ascii (take i s) && ltb (getD s i 0) 128 ≡ ascii (take (i + 1) s)
-unfolding ascii
-ascii-more s i h =
-    let one : ascii (getD s i 0 ∷ []) ≡ ltb (getD s i 0) 128 = and-end (ltb (getD s i 0) 128) in
-    ap (λ (p : Bool). ascii (take i s) && p) (sym one) ∙ sym (ascii-append (take i s) (getD s i 0 ∷ [])) ∙ ap ascii (sym (take-suc s i 0 h) ∙ ap (λ (k : ℕ). take k s) (sym (add-one i)))
+  pub every-none : every f [] ≡ true
+  unfolding every
+  every-none = refl
 
-ascii-take : (n : ℕ) (s : List ℕ) → ascii s ≡ true → ascii (take n s) ≡ true
-unfolding ascii
-ascii-take zero s e = refl
-ascii-take (suc n) [] e = refl
-ascii-take (suc n) (b ∷ s) e = let p = and-true (ltb b 128) (ascii s) e in true-and _ _ (p .0) (ascii-take n s (p .1))
+  pub every-more : (s : List ℕ) (i : ℕ) → i < length s → every f (take i s) && f (getD s i 0) ≡ every f (take (i + 1) s)
+  unfolding every
+  every-more s i h =
+      let one : every f (getD s i 0 ∷ []) ≡ f (getD s i 0) = and-end (f (getD s i 0)) in
+      ap (λ (p : Bool). every f (take i s) && p) (sym one)
+      ∙ sym (every-append (take i s) (getD s i 0 ∷ []))
+      ∙ ap (every f) (sym (take-suc s i 0 h) ∙ ap (λ (k : ℕ). take k s) (sym (add-one i)))
 
-ascii-drop : (n : ℕ) (s : List ℕ) → ascii s ≡ true → ascii (drop n s) ≡ true
-unfolding ascii
-ascii-drop zero s e = e
-ascii-drop (suc n) [] e = refl
-ascii-drop (suc n) (b ∷ s) e = ascii-drop n s (and-true (ltb b 128) (ascii s) e .1)
+  -- one octet, over and over
+  pub every-same : (b n : ℕ) → f b ≡ true → every f (replicate n b) ≡ true
+  unfolding every
+  every-same b zero e = refl
+  every-same b (suc n) e = true-and _ _ e (every-same b n e)
 
--- all of the text below 128: so is every part of it
-pub ascii-part : (s : List ℕ) (o l : ℕ) → ascii s ≡ true → ascii (take l (drop o s)) ≡ true
-ascii-part s o l e = ascii-take l (drop o s) (ascii-drop o s e)
+  every-take : (n : ℕ) (s : List ℕ) → every f s ≡ true → every f (take n s) ≡ true
+  unfolding every
+  every-take zero s e = refl
+  every-take (suc n) [] e = refl
+  every-take (suc n) (b ∷ s) e = let p = and-true (f b) (every f s) e in true-and _ _ (p .0) (every-take n s (p .1))
 
--- the front of what is below 128
-pub ascii-short : (s : List ℕ) (n m : ℕ) → n ≤ m → ascii (take m s) ≡ true → ascii (take n s) ≡ true
-ascii-short s n m h e = ap ascii (sym (take-take n m s h)) ∙ ascii-take n (take m s) e
+  every-drop : (n : ℕ) (s : List ℕ) → every f s ≡ true → every f (drop n s) ≡ true
+  unfolding every
+  every-drop zero s e = e
+  every-drop (suc n) [] e = refl
+  every-drop (suc n) (b ∷ s) e = every-drop n s (and-true (f b) (every f s) e .1)
+
+  -- of all of the text: so of every part of it
+  pub every-part : (s : List ℕ) (o l : ℕ) → every f s ≡ true → every f (take l (drop o s)) ≡ true
+  every-part s o l e = every-take l (drop o s) (every-drop o s e)
+
+  -- the front of what passes
+  pub every-short : (s : List ℕ) (n m : ℕ) → n ≤ m → every f (take m s) ≡ true → every f (take n s) ≡ true
+  every-short s n m h e = ap (every f) (sym (take-take n m s h)) ∙ every-take n (take m s) e
+
+-- two tests at once
+pub every-both : (f g : ℕ → Bool) (s : List ℕ) → every (λ b. f b && g b) s ≡ every f s && every g s
+unfolding every
+every-both f g [] = refl
+every-both f g (b ∷ s) = ap (λ (p : Bool). (f b && g b) && p) (every-both f g s) ∙ and-swap (f b) (g b) (every f s) (every g s)
+  where
+    and-swap : (p q r s : Bool) → (p && q) && (r && s) ≡ (p && r) && (q && s)
+    and-swap true true r s = refl
+    and-swap true false true s = refl
+    and-swap true false false s = refl
+    and-swap false q r s = refl
+
+-- all of the text is plain: so is every part of it
+pub plain-part : (s : List ℕ) (o l : ℕ) → plain s ≡ true → plain (take l (drop o s)) ≡ true
+unfolding plain
+plain-part s o l e = every-part (λ b. ltb b 128 && not (eqb b 10)) s o l e
+
+-- the front of what is plain
+pub plain-short : (s : List ℕ) (n m : ℕ) → n ≤ m → plain (take m s) ≡ true → plain (take n s) ≡ true
+unfolding plain
+plain-short s n m h e = every-short (λ b. ltb b 128 && not (eqb b 10)) s n m h e
+
+-- plain is below 128 and without a line feed
+pub plain-both : (s : List ℕ) → plain s ≡ ascii s && noFeed s
+unfolding plain ascii noFeed
+plain-both s = every-both (λ b. ltb b 128) (λ b. not (eqb b 10)) s
 
 -- ---- first octets
 

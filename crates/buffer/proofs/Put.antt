@@ -7,11 +7,11 @@
 --     copy-more                        a part of another list: a store more
 --     put-one, put-put, put-cons       a single store; a run put behind a run, and behind a single store
 --     part-put, copied-over            the front up to a part of what is put; the same of a part of another list
---     put-same, fill-run, fill-kept    what stands already; a run more filled, or found full
+--     put-same, fill-run, fill-part, fill-kept    what stands already; a run more filled, or found full
 --     zero-more, zero-all              all 0: one element more; then it is filled with 0
 --     block-filled, block-clean, word-cleared, all-cleared    a loop that clears by blocks: a block filled or found clean, a word, the end
 -- Assumes nothing.
-use mathlib.Core.Path.{_≡_, refl, sym, ap, ap₂, _∙_}
+use mathlib.Core.Path.{_≡_, refl, sym, ap, ap₂, _∙_, subst}
 use mathlib.Core.Bool.{Bool, true, false, _&&_, and-assoc, true≢false}
 use mathlib.Core.List.{List, [], _∷_, _++_, append-assoc, append-nil}
 use Prim.Native.Nat.{ℕ, zero, suc, _+_, _-_, _≤_, _<_}
@@ -152,6 +152,10 @@ module _ {A : Type 0} (d : List A) (at : ℕ) (v : A) (n m : ℕ) (buffer : List
     ap (λ (l : List A). put l (at + n) (replicate m v)) (f .0) ∙ put-put d at (replicate n v) (replicate m v) n (length-replicate n v) (omega arith) ∙ ap (put d at) (replicate-append-replicate n m v),
     length-put buffer (at + n) (replicate m v) m (length-replicate m v) (rw (f .1) h) ∙ f .1,
   )
+
+  -- by a part of a run that has v everywhere
+  pub fill-part : (k : ℕ) (buffer′ : List A) → m ≤ k → buffer′ ≡ put buffer (at + n) (take m (replicate k v)) → Filling d at v (n + m) buffer′
+  fill-part k buffer′ l e = subst (Filling d at v (n + m)) (sym (e ∙ ap (put buffer (at + n)) (take-replicate m k v l))) fill-run
 
   pub fill-kept : take m (drop (at + n) buffer) ≡ replicate m v → Filling d at v (n + m) buffer
   fill-kept e = rw (put-same buffer (at + n) m (replicate m v) (length-replicate m v) e) at fill-run

@@ -1,8 +1,8 @@
--- Well-formed UTF-8 by RFC 3629, section 4: the octets that may follow each first octet.
+-- Well-formed UTF-8 by RFC 3629, section 4: the octets that may follow each first octet. Then tests of every octet: below 128, no line feed, both.
 use Prim.Native.Nat.{ℕ}
-use mathlib.Core.Bool.{Bool, true, false, _&&_}
+use mathlib.Core.Bool.{Bool, true, false, not, _&&_}
 use mathlib.Core.List.{List, [], _∷_}
-use lib.Dec.{leb, ltb}
+use lib.Dec.{eqb, leb, ltb}
 use Rattle.choice.specs.Pick.{pick}
 
 -- a range of octets, both ends in it
@@ -49,7 +49,19 @@ owed (r ∷ rs) (b ∷ bs) = within r b && owed rs bs
 unfoldable pub wellFormed : List ℕ → Bool
 wellFormed bs = owed [] bs
 
+-- whether every octet passes a test
+unfoldable pub every : (ℕ → Bool) → List ℕ → Bool
+every f [] = true
+every f (b ∷ bs) = f b && every f bs
+
 -- all octets below 128
 unfoldable pub ascii : List ℕ → Bool
-ascii [] = true
-ascii (b ∷ bs) = ltb b 128 && ascii bs
+ascii bs = every (λ b. ltb b 128) bs
+
+-- no line feed among them
+unfoldable pub noFeed : List ℕ → Bool
+noFeed bs = every (λ b. not (eqb b 10)) bs
+
+-- both of every octet: it is below 128, and no line feed
+unfoldable pub plain : List ℕ → Bool
+plain bs = every (λ b. ltb b 128 && not (eqb b 10)) bs

@@ -50,18 +50,6 @@ pub fn clear_words(words: &mut [u32])
     zero_words_from(words, 0);
 }
 
-// n times the byte v from `at` on.
-pub fn fill_bytes(dst: &mut [u8], at: usize, n: usize, v: u8)
-    requires { ⌜ at + n ≤ length (now dst) ⌝ }
-    ensures { λ _. ⌜ now (dst .exit) ≡ put (now (dst .entry)) at (replicate n v) ⌝ }
-{
-    let mut i = 0;
-    while i < n {
-        dst[at + i] = v;
-        i += 1;
-    }
-}
-
 // n times the word v from `at` on.
 pub fn fill_words(words: &mut [u32], at: usize, n: usize, v: u32)
     requires { ⌜ at + n ≤ length (now words) ⌝ }
@@ -111,13 +99,30 @@ pub fn copy_over(src: &[u8], from: usize, n: usize, dst: &mut [u8], at: usize)
     copy_bytes(src, from, n, dst, at);
 }
 
+// A block of blanks.
+const BLANKS: [u8; 32] = [32; 32];
+
+// n blanks from `at` on: whole blocks, then the rest.
+fn fill_blanks(dst: &mut [u8], at: usize, n: usize)
+    requires { ⌜ at + n ≤ length (now dst) ⌝ }
+    ensures { λ _. ⌜ now (dst .exit) ≡ put (now (dst .entry)) at (replicate n 32) ⌝ }
+{
+    let blanks = BLANKS;
+    let mut done = 0;
+    while BYTES <= n - done {
+        copy_bytes(&blanks, 0, BYTES, dst, at + done);
+        done += BYTES;
+    }
+    copy_bytes(&blanks, 0, n - done, dst, at + done);
+}
+
 // Byte 10, then n blanks, from `at` on.
 pub fn newline(dst: &mut [u8], at: usize, n: usize)
     requires { ⌜ at + n < length (now dst) ⌝ }
     ensures { λ _. ⌜ now (dst .exit) ≡ put (now (dst .entry)) at (10 ∷ replicate n 32) ⌝ }
 {
     dst[at] = 10;
-    fill_bytes(dst, at + 1, n, 32);
+    fill_blanks(dst, at + 1, n);
 }
 
 // Whether a block of words from `at` on is all 0.

@@ -1,10 +1,10 @@
-// Text bytes: whether all are below 128, then whether they are well-formed UTF-8 by RFC 3629. Only `plainly_below_128`, a shortcut of
-// validation, has a `requires`.
+// Text bytes: whether all are below 128, whether there is a line feed, both at once; then whether they are well-formed UTF-8 by RFC 3629.
+// Only `plain_at_once`, a shortcut of validation, has a `requires`.
 ghost use mathlib.Core.Path.{_≡_};
 ghost use mathlib.Core.Bool.{true};
 ghost use Prim.Native.Nat.{_+_, _≤_};
 ghost use lib.ListN.{length, take, drop};
-ghost use Rattle.buffer.specs.Utf8.{wellFormed, ascii, start};
+ghost use Rattle.buffer.specs.Utf8.{wellFormed, ascii, noFeed, plain, start};
 ghost use Rattle.buffer.specs.Reader.{starts, GoesOn};
 
 // Whether all bytes are below 128. It reads to the end, so that it goes by whole blocks.
@@ -20,19 +20,46 @@ pub fn below_128(bytes: &[u8]) -> bool
     low
 }
 
+// Whether there is no line feed, byte 10.
+pub fn no_feed(bytes: &[u8]) -> bool
+    ensures { λ r. ⌜ r ≡ noFeed (now (bytes .entry)) ⌝ }
+{
+    let mut without = true;
+    let mut i = 0;
+    while i < bytes.len() {
+        without = without & (bytes[i] != 10);
+        i += 1;
+    }
+    without
+}
+
+// Whether all bytes are plain: below 128, and no line feed.
+pub fn all_plain(bytes: &[u8]) -> bool
+    ensures { λ r. ⌜ r ≡ plain (now (bytes .entry)) ⌝ }
+{
+    let mut so_far = true;
+    let mut i = 0;
+    while i < bytes.len() {
+        let b = bytes[i];
+        so_far = so_far & ((b < 128) & (b != 10));
+        i += 1;
+    }
+    so_far
+}
+
 // Bytes that are looked at together.
 const BLOCK: usize = 32;
 
-// Whether a part is seen at once to be below 128: all of the text is, or the block that starts with it is. `false` decides nothing.
-pub fn plainly_below_128(text: &[u8], plain: bool, at: usize, n: usize) -> bool
-    requires { ⌜ (plain ≡ ascii (now text)) × (at + n ≤ length (now text)) ⌝ }
-    ensures { λ r. ⌜ (r ≡ true → ascii (take n (drop at (now (text .entry)))) ≡ true) ⌝ }
+// Whether a part is seen at once to be plain: all of the text is, or the block that starts with it is. `false` decides nothing.
+pub fn plain_at_once(text: &[u8], whole: bool, at: usize, n: usize) -> bool
+    requires { ⌜ (whole ≡ plain (now text)) × (at + n ≤ length (now text)) ⌝ }
+    ensures { λ r. ⌜ (r ≡ true → plain (take n (drop at (now (text .entry)))) ≡ true) ⌝ }
 {
-    if plain {
+    if whole {
         return true;
     }
     if n <= BLOCK && BLOCK <= text.len() - at {
-        return below_128(&text[at..at + BLOCK]);
+        return all_plain(&text[at..at + BLOCK]);
     }
     false
 }

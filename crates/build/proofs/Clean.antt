@@ -43,7 +43,7 @@ text-longer : (text more : List ℕ) (a b c : ℕ) → TextRight text a b c → 
 text-longer text more a b c r =
     let same : take b (drop a (text ++ more)) ≡ take b (drop a text) =
     part-same (length text) a b (text ++ more) text (take-append-seam text more ∙ sym (take-length text)) (r .inside) in
-    record { inside = simp length-append (let i = r .inside in omega arith); utf8 = rw same (r .utf8); below128 = λ e. r .below128 (rw same at e); columns = r .columns }
+    record { inside = simp length-append (let i = r .inside in omega arith); unfed = rw same (r .unfed); utf8 = rw same (r .utf8); below128 = λ e. r .below128 (rw same at e); columns = r .columns }
 
 node-longer : (text more : List ℕ) (n k a b c : ℕ) → NodeRight text n k a b c → NodeRight (text ++ more) n k a b c
 node-longer text more n k a b c r =

@@ -13,7 +13,7 @@ use lib.Dec.{eqb, leb}
 use borrow.Author.Tests.{le-leb}
 use Rattle.choice.specs.Pick.{pick}
 use Rattle.table.specs.Kinds.{kinds, kindAt}
-use Rattle.buffer.specs.Utf8.{ascii}
+use Rattle.buffer.specs.Utf8.{every, ascii, noFeed}
 use Rattle.table.specs.Fault.{columnsRight, faultOf}
 use Rattle.table.specs.Document.{Doc, doc, nil, append, group, flatAlt, hardline, text, align}
 use Rattle.build.specs.Draft.{Draft, Built, add, write}
@@ -64,7 +64,7 @@ module _ {s : Draft} (c : Clean s) where
         go false = letters-makes
 
   pub space-makes : Makes s (parts.space s) spaceDoc
-  unfolding columnsRight ascii
+  unfolding columnsRight ascii noFeed every
   space-makes = text-makes (32 ∷ []) 1 refl
 
   -- ---- lines

@@ -2,14 +2,15 @@
 use Prim.Native.Nat.{ℕ, zero, suc, _+_, _*_, _≤_, _<_}
 use native.Mathlib.Omega.{arith}
 use mathlib.Core.Path.{_≡_, refl, sym, ap, _∙_}
-use mathlib.Core.Bool.{Bool, true, false, _||_, _&&_}
+use mathlib.Core.Bool.{Bool, true, false, not, _||_, _&&_}
 use mathlib.Core.List.{List, [], _∷_}
 use lib.ListN.{length, take, replicate, length-replicate}
-use lib.Dec.{eqb, leb}
+use lib.Dec.{eqb, ltb, leb}
 use borrow.Author.Tests.{lt-ltb, ltb-true, eq-eqb, eqb-true, le-leb, leb-true}
 use Rattle.choice.specs.Pick.{pick}
 use Rattle.table.specs.Node.{word}
-use Rattle.buffer.specs.Utf8.{ascii}
+use Rattle.buffer.proofs.Octets.{every-same}
+use Rattle.buffer.specs.Utf8.{ascii, noFeed}
 use Rattle.table.specs.Fault.{columnsRight}
 use Rattle.table.specs.declared.NodeNo.{NodeNo}
 use Rattle.build.specs.declared.Counts.{Counts}
@@ -32,14 +33,10 @@ use Rattle.build.proofs.Stand.{ComesTo, start, Went, gone, taken, refus
 
 -- ---- blanks
 
-blanks-ascii : (n : ℕ) → ascii (replicate n 32) ≡ true
-unfolding ascii
-blanks-ascii zero = refl
-blanks-ascii (suc n) = blanks-ascii n
-
 pub blanks-right : (n : ℕ) → columnsRight (replicate n 32) n ≡ true
-unfolding columnsRight
-blanks-right n = rw (blanks-ascii n, length-replicate {A = ℕ} n 32) (eq-eqb n n refl)
+unfolding columnsRight ascii noFeed
+blanks-right n =
+    rw (every-same (λ b. not (eqb b 10)) 32 n refl, every-same (λ b. ltb b 128) 32 n refl, length-replicate {A = ℕ} n 32) (eq-eqb n n refl)
 
 -- ---- how many nodes
 

@@ -5,7 +5,7 @@ use mathlib.Core.Path.{_≡_, refl}
 use mathlib.Core.List.{List, [], _∷_}
 use Rattle.table.specs.Node.{wayOf}
 use Rattle.table.specs.Document.{Doc, append, nest, hardline, text, annotated, union}
-use Rattle.buffer.specs.Utf8.{owed, wellFormed, ascii}
+use Rattle.buffer.specs.Utf8.{owed, wellFormed, every, ascii}
 use Rattle.build.specs.Documents.{appendDoc, groupDoc, nestDoc, textDoc, joinedDoc, concatDoc, separatedDoc, intersperseDoc}
 use Rattle.block.specs.Documents.{bareDoc, headDoc, tailDoc, coreDoc, wrapsDoc, alternativeDoc, unionsDoc, blockDoc}
 use Rattle.buffer.specs.Parts.{indexOf, lines, bodyEnd, characters, blank, controls, blanks, trimmed}
@@ -38,6 +38,6 @@ sample : sheetDoc input ≡ append (annotated (union (append (append row (text (
 unfolding input row remark sheetDoc linesDoc footerDoc toldDoc partDoc saysDoc rowDoc markedDoc endedDoc besideDoc belowDoc lowerDoc
     filledDoc fields right blanks trimmed togetherOn wordsOn concatDoc joinedDoc appendDoc groupDoc nestDoc textDoc separatedDoc
     intersperseDoc lines bodyEnd characters blank controls indexOf digits numberOf tenthsAdd tenthsOf labelOf cutsAt fieldsOf measured
-    palletOf palletAt said parsed standing standingOf rowCount outNotes owed wellFormed ascii headedDoc blockDoc unionsDoc alternativeDoc
+    palletOf palletAt said parsed standing standingOf rowCount outNotes owed wellFormed every ascii headedDoc blockDoc unionsDoc alternativeDoc
     headDoc tailDoc wrapsDoc coreDoc bareDoc
 sample = refl

@@ -4,6 +4,7 @@
 --     unique       two outcomes for the same inputs are equal: the report and every lent buffer
 --     demand-1     an answer of 0 to 9; lengths kept; blank past the used part, on a refusal all; the work area zero
 --     demand-3     two calls that differ by one law hand back the same answer, and in their buffers the same used bytes and events
+--     fed          every line feed in the output is a Hardline's
 -- Assumes nothing.
 use mathlib.Core.Path.{_≡_, sym, ap, _∙_}
 use Prim.Native.Nat.{ℕ, _-_, _≤_, _<_}
@@ -14,6 +15,9 @@ use lib.Seq.{take-append-seam, drop-append-seam}
 use Rattle.rules.specs.Layout as rules
 use Rattle.rules.specs.Call.{Given, call, padded}
 use Rattle.rules.specs.Law as law
+use Rattle.rules.specs.Pieces.{Fed}
+use Rattle.rules.proofs.Feeds.{all-fed}
+use Rattle.table.specs.Unfold.{tree, root}
 use Rattle.rules.proofs.Answers.{Answered}
 use Rattle.rules.proofs.Cleared.{padded-length, padded-none}
 use Rattle.rules.proofs.Demand3 as rules′
@@ -116,3 +120,11 @@ module _ {A : Type 0} (form : Form A) (lawful : Lawful form) where
         let of-g : law.Unrefused (call g) = rw is at (unrefused p u) in
         let of-h : law.Unrefused (call h) = rw is′ at (unrefused q u′) in
         alike (rw (is, is′) (rules′.demand-3 g h (one .valid) (one .valid′) (one .differ) (one .width) (one .text) of-g of-h))
+
+-- ---- line feeds
+
+-- every line feed in the output of a call is a Hardline's
+pub fed : {A : Type 0} (form : Form A) (lawful : Lawful form) (g : Given) {room size work : ℕ} {r : Report} {out : List ℕ} {noted : List A} {area : List ℕ}
+    → Returned form (call g) room size work r out noted area → r .answer ≡ 0
+    → Fed (tree (g .table) (g .text) (root (g .table))) (take (r .used) out)
+fed form lawful g p z = rw (bytes-used form lawful p) (all-fed g (sym (p .answer) ∙ z))

@@ -10,7 +10,7 @@ use mathlib.Core.List.{List, [], _∷_}
 use lib.Dec.{eqb}
 use Rattle.table.specs.Node.{adds, subtracts, Node, nil, append, group, flatAlt, nest, hardline, text, annotated, union, align, fail, nodeAt}
 use Rattle.table.specs.Kinds.{kinds, kindAt}
-use Rattle.buffer.specs.Utf8.{owed, wellFormed, ascii}
+use Rattle.buffer.specs.Utf8.{owed, wellFormed, every as every-octet, ascii, noFeed}
 use Rattle.table.specs.Fault.{columnsRight, faultOf, faultAt, firstFault, check}
 use Rattle.table.specs.Unfold.{treeOver, trees, tree}
 use Rattle.rules.specs.Layout.{Report, visit, fit, rest, put, event, lay, layout}
@@ -106,7 +106,7 @@ meets r c =
 
 -- the call, computed
 unfoldable pub computed : Given → Report
-unfolding call check firstFault faultAt faultOf columnsRight wellFormed owed ascii kindAt kinds tree trees treeOver nodeAt layout lay visit put event fit rest
+unfolding call check firstFault faultAt faultOf columnsRight wellFormed owed ascii noFeed every-octet kindAt kinds tree trees treeOver nodeAt layout lay visit put event fit rest
 computed g = call g
 
 unfoldable pub every : List Case → Bool

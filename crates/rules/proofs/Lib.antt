@@ -22,6 +22,8 @@ pub mod Reasons
 pub mod FirstMet
 -- computed: the request's cases
 mod WhyCases
+-- every line feed in the output is a Hardline's
+pub mod Feeds
 -- like trees run alike
 pub mod Like
 -- random calls, with the answers of the interpreter in compare

@@ -3,3 +3,4 @@ pub mod Layout
 pub mod Call
 pub mod Law
 pub mod Why
+pub mod Pieces

@@ -1,4 +1,4 @@
-// The main job: reads a chest's test results from standard input and prints its sheet for the 42-column strip, with `! ` in the margin beside
+// The main job: reads a chest's test results from standard input and prints its sheet for the strip, with `! ` in the margin beside
 // each row out of tolerance. A fault is told on standard error, and then nothing is printed.
 use libc::STDERR_FILENO;
 use libc::STDIN_FILENO;

@@ -18,7 +18,7 @@ use lib.Dec.{eqb, ltb, leb}
 use borrow.Author.Tests.{ltb-true, leb-true, eqb-true, eqb-false, not-true, not-false, lt-ltb, le-leb, lt-leb, leb-false, eq-eqb, ne-eqb}
 use Rattle.choice.specs.Pick.{pick}
 use Rattle.table.specs.Kinds.{kindAt}
-use Rattle.buffer.specs.Utf8.{wellFormed, ascii}
+use Rattle.buffer.specs.Utf8.{wellFormed, ascii, noFeed}
 use Rattle.table.specs.Fault.{Fault, fault, none, unusedZero, childrenBelow, nestInRange, columnsRight, faultOf, faultAt, orElse, firstFault, sizesRight, check}
 use Rattle.table.specs.Valid.{NodeRight, Valid}
 use Rattle.choice.proofs.Tests.{and-true, true-and, or-true, true-or, passed, passes}
@@ -30,9 +30,12 @@ use Rattle.buffer.proofs.Octets.{ascii-well}
 pub part-length : (text : List ℕ) (a b : ℕ) → a + b ≤ length text → length (take b (drop a text)) ≡ b
 part-length text a b h = simp (length-take, length-drop) (omega arith)
 
-columns-of : (bs : List ℕ) (c b : ℕ) → length bs ≡ b → columnsRight bs c ≡ true → (wellFormed bs ≡ true) × (ascii bs ≡ true → c ≡ b) × (c ≤ b)
+columns-of : (bs : List ℕ) (c b : ℕ) → length bs ≡ b → columnsRight bs c ≡ true → (noFeed bs ≡ true) × (wellFormed bs ≡ true) × (ascii bs ≡ true → c ≡ b) × (c ≤ b)
 unfolding columnsRight
-columns-of bs c b l e = go (ascii bs) refl e
+columns-of bs c b l e =
+    let p = and-true (noFeed bs) _ e in
+    let q = go (ascii bs) refl (p .1) in
+    (p .0, q .0, q .1, q .2)
   where
     go : (q : Bool) → ascii bs ≡ q → pick q (eqb c (length bs)) (wellFormed bs && leb c (length bs)) ≡ true → (wellFormed bs ≡ true) × (ascii bs ≡ true → c ≡ b) × (c ≤ b)
     go true q e = let s : c ≡ b = eqb-true c (length bs) e ∙ l in (ascii-well bs q, λ x. s, omega arith)
@@ -41,9 +44,9 @@ columns-of bs c b l e = go (ascii bs) refl e
         let s : c ≤ length bs = leb-true c (length bs) (p .1) in
         (p .0, λ x. absurd (true≢false (sym x ∙ q)), omega arith)
 
-of-columns : (bs : List ℕ) (c b : ℕ) → length bs ≡ b → wellFormed bs ≡ true → (ascii bs ≡ true → c ≡ b) → c ≤ b → columnsRight bs c ≡ true
+of-columns : (bs : List ℕ) (c b : ℕ) → length bs ≡ b → noFeed bs ≡ true → wellFormed bs ≡ true → (ascii bs ≡ true → c ≡ b) → c ≤ b → columnsRight bs c ≡ true
 unfolding columnsRight
-of-columns bs c b l w f le = go (ascii bs) refl
+of-columns bs c b l u w f le = true-and _ _ u (go (ascii bs) refl)
   where
     go : (q : Bool) → ascii bs ≡ q → pick q (eqb c (length bs)) (wellFormed bs && leb c (length bs)) ≡ true
     go true q = eq-eqb c (length bs) (f q ∙ sym l)
@@ -88,7 +91,7 @@ module _ (text : List ℕ) (n k a b c : ℕ) where
         text = λ s.
             let i = leb-true (a + b) (length text) (at-kind 6 _ (p4 .0) s) in
             let q = columns-of (take b (drop a text)) c b (part-length text a b i) (at-kind 6 _ (p5 .0) s) in
-            record { inside = i; utf8 = q .0; below128 = q .1; columns = q .2 };
+            record { inside = i; unfed = q .0; utf8 = q .1; below128 = q .2; columns = q .3 };
       }
 
   -- as document 01 asks: no fault
@@ -108,7 +111,7 @@ module _ (text : List ℕ) (n k a b c : ℕ) where
       (kind-at 4 _ (λ s. true-and _ _ (le-leb b 1000 (r .nest s .amount)) (le-leb c 1 (r .nest s .way)))))
       (passes _ _ 4 (kind-at 6 _ (λ s. le-leb (a + b) (length text) (r .text s .inside)))
       (passes _ _ 5
-      (kind-at 6 _ (λ s. let t = r .text s in of-columns (take b (drop a text)) c b (part-length text a b (t .inside)) (t .utf8) (t .below128) (t .columns)))
+      (kind-at 6 _ (λ s. let t = r .text s in of-columns (take b (drop a text)) c b (part-length text a b (t .inside)) (t .unfed) (t .utf8) (t .below128) (t .columns)))
       refl)))
 
 -- ---- the first fault

@@ -7,7 +7,7 @@ use lib.Dec.{eqb, ltb, leb}
 use Rattle.choice.specs.Pick.{pick}
 use Rattle.table.specs.Kinds.{kindAt}
 use Rattle.table.specs.Node.{word}
-use Rattle.buffer.specs.Utf8.{wellFormed, ascii}
+use Rattle.buffer.specs.Utf8.{wellFormed, ascii, noFeed}
 
 -- an answer and its place; answer 0 for none
 pub record Fault : Type 0 where
@@ -38,9 +38,9 @@ nestInRange k b c = not (eqb k 4) || (leb b 1000 && leb c 1)
 abbrev pub rangeInside : List ℕ → ℕ → ℕ → ℕ → Bool
 rangeInside text k a b = not (eqb k 6) || leb (a + b) (length text)
 
--- all bytes below 128: columns equal length; otherwise well-formed, and columns at most length
+-- no byte 10; all bytes below 128: columns equal length; otherwise well-formed, and columns at most length
 unfoldable pub columnsRight : List ℕ → ℕ → Bool
-columnsRight bytes c = pick (ascii bytes) (eqb c (length bytes)) (wellFormed bytes && leb c (length bytes))
+columnsRight bytes c = noFeed bytes && pick (ascii bytes) (eqb c (length bytes)) (wellFormed bytes && leb c (length bytes))
 
 abbrev pub textRight : List ℕ → ℕ → ℕ → ℕ → ℕ → Bool
 textRight text k a b c = not (eqb k 6) || columnsRight (take b (drop a text)) c

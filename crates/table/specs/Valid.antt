@@ -7,7 +7,7 @@ use mathlib.Core.List.{List}
 use lib.ListN.{length, take, drop}
 use Rattle.table.specs.Kinds.{kindAt}
 use Rattle.table.specs.Node.{word}
-use Rattle.buffer.specs.Utf8.{wellFormed, ascii}
+use Rattle.buffer.specs.Utf8.{wellFormed, ascii, noFeed}
 
 -- the words b and c of a Nest
 pub record NestRight (b c : ℕ) : Type 0 where
@@ -17,6 +17,7 @@ pub record NestRight (b c : ℕ) : Type 0 where
 -- the words of a Text over the text bytes: offset a, length b, columns c
 pub record TextRight (bytes : List ℕ) (a b c : ℕ) : Type 0 where
   pub inside : a + b ≤ length bytes
+  pub unfed : noFeed (take b (drop a bytes)) ≡ true
   pub utf8 : wellFormed (take b (drop a bytes)) ≡ true
   pub below128 : ascii (take b (drop a bytes)) ≡ true → c ≡ b
   pub columns : c ≤ b

@@ -7,11 +7,12 @@ ghost use mathlib.Core.List.{List};
 ghost use Prim.Native.Nat.{ℕ, _/_, _≤_, _<_};
 ghost use lib.ListN.{length};
 ghost use Rattle.table.specs.Kinds.{kinds, kindAt};
-ghost use Rattle.buffer.specs.Utf8.{ascii};
+ghost use Rattle.buffer.specs.Utf8.{plain as plainBytes};
 ghost use Rattle.table.specs.Parts.{Tells, textFault};
 ghost use Rattle.table.specs.Fault.{unusedZero, childrenBelow, nestInRange, columnsRight, faultOf, firstFault, sizesRight, check};
-use buffer::utf8::below_128;
-use buffer::utf8::plainly_below_128;
+use buffer::utf8::all_plain;
+use buffer::utf8::no_feed;
+use buffer::utf8::plain_at_once;
 use buffer::utf8::well_formed;
 
 // The kinds by name, with document 01's numbers.
@@ -193,23 +194,24 @@ fn nest_in_range(k: u32, b: u32, c: u32) -> bool
     (b <= 1000) & (c <= 1)
 }
 
-// Whether the columns of a Text with these bytes are right, and the bytes well-formed.
+// Whether the columns of a Text with these bytes are right, and the bytes well-formed and without a line feed. Bytes that are not plain and
+// have no line feed are not all below 128.
 pub fn columns_right(bytes: &[u8], c: Column) -> bool
     ensures { λ r. ⌜ r ≡ columnsRight (now (bytes .entry)) (c .0) ⌝ }
 {
     let columns = c.0 as usize;
-    if below_128(bytes) {
+    if all_plain(bytes) {
         return columns == bytes.len();
     }
     if well_formed(bytes) {
-        return columns <= bytes.len();
+        return no_feed(bytes) & (columns <= bytes.len());
     }
     false
 }
 
 // A Text's range, then its bytes and columns.
 fn text_fault(text: &[u8], plain: bool, a: u32, b: u32, c: u32) -> u32
-    requires { ⌜ plain ≡ ascii (now text) ⌝ }
+    requires { ⌜ plain ≡ plainBytes (now text) ⌝ }
     ensures { λ r. ⌜ r ≡ textFault (now (text .entry)) a b c ⌝ }
 {
     let at = a as usize;
@@ -217,7 +219,7 @@ fn text_fault(text: &[u8], plain: bool, a: u32, b: u32, c: u32) -> u32
     if text.len() < end {
         return 4;
     }
-    if plainly_below_128(text, plain, at, b as usize) {
+    if plain_at_once(text, plain, at, b as usize) {
         if c == b {
             return 0;
         }
@@ -256,7 +258,7 @@ fn node_fault(
     b: u32,
     c: u32,
 ) -> u32
-    requires { ⌜ (plain ≡ ascii (now text)) × (k < 11) × (info ≡ kindAt k) ⌝ }
+    requires { ⌜ (plain ≡ plainBytes (now text)) × (k < 11) × (info ≡ kindAt k) ⌝ }
     ensures { λ r. ⌜ r ≡ faultOf (now (text .entry)) (n .0) k a b c ⌝ }
 {
     if k == TEXT {
@@ -278,7 +280,7 @@ fn node_fault(
 
 // The first fault of the nodes from 0 up, unreachable ones too.
 fn first_fault(table: &[u32], text: &[u8], plain: bool) -> Fault
-    requires { ⌜ (plain ≡ ascii (now text)) × (length (now table) ≤ 4096) ⌝ }
+    requires { ⌜ (plain ≡ plainBytes (now text)) × (length (now table) ≤ 4096) ⌝ }
     ensures { λ r. ⌜ Tells r (firstFault (now (table .entry)) (now (text .entry)) (length (now (table .entry)) / 4)) ⌝ }
 {
     let kinds = all_kinds();
@@ -327,5 +329,5 @@ pub fn validate(table: &[u32], text: &[u8]) -> Fault
             place: NodeNo(0),
         };
     }
-    first_fault(table, text, below_128(text))
+    first_fault(table, text, all_plain(text))
 }

@@ -1,4 +1,4 @@
--- `table::text_fault` meets its contract: 4 outside; inside, seen at once to be below 128, or else looked at. Assumes nothing.
+-- `table::text_fault` meets its contract: 4 outside; inside, seen at once to be plain, or else looked at. Assumes nothing.
 use borrow.Author.Needs.{needs}
 use native.Mathlib.Omega.{arith}
 use mathlib.Core.Path.{_≡_, sym, ap, _∙_}
@@ -6,7 +6,7 @@ use mathlib.Core.Bool.{true, false}
 use Prim.Native.Nat.{ℕ, _+_, _-_, _≤_}
 use lib.ListN.{length, take, drop}
 use borrow.Author.Tests.{eq-eqb, ne-eqb}
-use Rattle.buffer.specs.Utf8.{ascii}
+use Rattle.buffer.specs.Utf8.{plain}
 use Rattle.table.specs.Fault.{columnsRight}
 use Rattle.table.proofs.Answers.{text-outside, text-inside, text-plain}
 use Rattle.table.proofs.text_fault.Statement.{statement}
@@ -20,15 +20,15 @@ returns c =
     let a = c .before .before .args in
     text-outside (a .text .now) (a .a) (a .b) (a .c) (omega arith)
 
-plainly-below-128-requires : tie.Need-plainly-below-128-requires
-plainly-below-128-requires c κs = (c .before .before .pre, omega arith)
+plain-at-once-requires : tie.Need-plain-at-once-requires
+plain-at-once-requires c κs = (c .before .before .pre, omega arith)
 
 returns-2 : tie.Need-returns-2
 returns-2 c =
     let a = c .before .before .before .before .before .args in
     let text = a .text .now in
     let h : a .a + a .b ≤ length text = omega arith in
-    let low : ascii (take (a .b) (drop (a .a) text)) ≡ true = c .before .before .plainly-below-128 .ensures (c .before .if2 .taken) in
+    let low : plain (take (a .b) (drop (a .a) text)) ≡ true = c .before .before .plain-at-once .ensures (c .before .if2 .taken) in
     text-inside text (a .a) (a .b) (a .c) true h (text-plain text (a .a) (a .b) (a .c) h low ∙ eq-eqb (a .c) (a .b) (c .if3 .taken))
 
 returns-3 : tie.Need-returns-3
@@ -36,7 +36,7 @@ returns-3 c =
     let a = c .before .before .before .before .before .args in
     let text = a .text .now in
     let h : a .a + a .b ≤ length text = omega arith in
-    let low : ascii (take (a .b) (drop (a .a) text)) ≡ true = c .before .before .plainly-below-128 .ensures (c .before .if2 .taken) in
+    let low : plain (take (a .b) (drop (a .a) text)) ≡ true = c .before .before .plain-at-once .ensures (c .before .if2 .taken) in
     text-inside text (a .a) (a .b) (a .c) false h (text-plain text (a .a) (a .b) (a .c) h low ∙ ne-eqb (a .c) (a .b) (c .if3 .left))
 
 sub-columns-right : tie.Need-sub-columns-right
@@ -73,7 +73,7 @@ text-fault-spec =
     (tie.spec
     add-end
     returns
-    plainly-below-128-requires
+    plain-at-once-requires
     returns-2
     returns-3
     sub-columns-right

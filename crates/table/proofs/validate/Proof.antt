@@ -19,14 +19,14 @@ returns c =
     let e : sizesRight (length (a .table .now)) (length (a .text .now)) ≡ false = sym (c .before .sizes-right .ensures) ∙ not-true _ (c .if1 .taken) in
     reported (check (a .table .now) (a .text .now)) 1 0 (check-sizes (a .table .now) (a .text .now) e)
 
-below-128-requires : tie.Need-below-128-requires
-below-128-requires c κs = search needs
+all-plain-requires : tie.Need-all-plain-requires
+all-plain-requires c κs = search needs
 
 first-fault-requires : tie.Need-first-fault-requires
 first-fault-requires c κs =
     let a = c .before .before .before .before .before .args in
     let e : sizesRight (length (a .table .now)) (length (a .text .now)) ≡ true = sym (c .before .before .sizes-right .ensures) ∙ not-false _ (c .before .if1 .left) in
-    (c .below-128 .ensures, sizes-of (a .table .now) (a .text .now) e .2)
+    (c .all-plain .ensures, sizes-of (a .table .now) (a .text .now) e .2)
 
 returns-2 : tie.Need-returns-2
 returns-2 c =
@@ -38,4 +38,4 @@ returns-2 c =
 pub validate-spec : {M : Type 1} → statement M
 validate-spec =
     tie.close
-    (tie.spec sizes-right-requires returns below-128-requires first-fault-requires returns-2)
+    (tie.spec sizes-right-requires returns all-plain-requires first-fault-requires returns-2)

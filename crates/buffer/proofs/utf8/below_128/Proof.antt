@@ -1,14 +1,14 @@
 -- `utf8::below_128` meets its contract: so far `low` says that the first i bytes are below 128. Assumes nothing.
 use borrow.Author.Needs.{needs}
 use native.Mathlib.Omega.{arith}
-use mathlib.Core.Path.{_≡_, refl, ap, _∙_}
+use mathlib.Core.Path.{_≡_, sym, ap, _∙_}
 use mathlib.Core.Bool.{Bool, _&&_}
 use Prim.Native.Nat.{_-_, _≤_}
 use lib.ListN.{length, take, getD}
 use lib.Seq.{take-length}
 use lib.Dec.{ltb}
 use Rattle.buffer.specs.Utf8.{ascii}
-use Rattle.buffer.proofs.Octets.{ascii-more}
+use Rattle.buffer.proofs.Octets.{every-none, every-more}
 use Rattle.buffer.proofs.utf8.below_128.Statement.{statement}
 use Rattle.buffer.proofs.utf8.below_128.Tie as tie
 
@@ -20,7 +20,7 @@ abbrev μ-loop : tie.MeasureT-loop
 
 loop-holds : tie.Need-loop-holds Inv-loop μ-loop
 unfolding ascii
-loop-holds c = (omega arith, refl)
+loop-holds c = (omega arith, sym (every-none (λ b. ltb b 128)))
 
 shared-slice-read-low : tie.Need-shared-slice-read-low Inv-loop μ-loop
 shared-slice-read-low c = search needs
@@ -32,10 +32,11 @@ loop-less : tie.Need-loop-less Inv-loop μ-loop
 loop-less c = search needs
 
 loop-again : tie.Need-loop-again Inv-loop μ-loop
+unfolding ascii
 loop-again c =
     let L = c .before .before .loop in
     let bytes = c .before .before .before .args .bytes .now in
-    (omega arith, ap (λ (p : Bool). p && ltb (getD bytes (L .i) 0) 128) (L .inv .1) ∙ ascii-more bytes (L .i) (omega arith))
+    (omega arith, ap (λ (p : Bool). p && ltb (getD bytes (L .i) 0) 128) (L .inv .1) ∙ every-more (λ b. ltb b 128) bytes (L .i) (omega arith))
 
 returns : tie.Need-returns Inv-loop μ-loop
 returns c =

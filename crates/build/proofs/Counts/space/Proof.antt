@@ -1,6 +1,6 @@
 -- `space`: a Text of one blank.
 use borrow.Author.Needs.{needs}
-use Rattle.buffer.specs.Utf8.{ascii}
+use Rattle.buffer.specs.Utf8.{every, ascii, noFeed}
 use Rattle.table.specs.Fault.{columnsRight}
 use Rattle.build.proofs.Counts.space.Statement.{statement}
 use Rattle.build.proofs.Counts.space.Tie as tie
@@ -18,7 +18,7 @@ same-length-2 : tie.Need-same-length-2
 same-length-2 c = search needs
 
 returns : tie.Need-returns
-unfolding columnsRight ascii
+unfolding columnsRight ascii noFeed every
 returns c =
     let after-text = c .before .before .before .before in
     after-text .text .ensures
