@@ -1,7 +1,7 @@
 /* Pursegable, for C: lays documents out on a strip of so many columns.
  *
  * In order: how to link, what a caller owes, what a call takes, the version; answers, sizes and kinds by name; the event record;
- * layout, sheet and label; the constructors; the block layouts. tests/example.c is the README's example. docs/FROM-PRETTY.md says
+ * layout, sheet and label; why a group broke; the constructors; the block layouts. tests/example.c is the README's example. docs/FROM-PRETTY.md says
  * what each function of the Rust crate pretty is here.
  *
  * How to link. `rt staticlib pursegable` proves the library and writes target/staticlib/libpursegable.a, for x86-64; it needs
@@ -35,9 +35,9 @@ extern "C" {
  *
  * A program that defines PURSEGABLE_WRITTEN_FOR as a major number before it includes this header doesn't compile with another. */
 #define PURSEGABLE_VERSION_MAJOR 1
-#define PURSEGABLE_VERSION_MINOR 1
+#define PURSEGABLE_VERSION_MINOR 2
 #define PURSEGABLE_VERSION_PATCH 0
-#define PURSEGABLE_VERSION "1.1.0"
+#define PURSEGABLE_VERSION "1.2.0"
 
 #if defined(PURSEGABLE_WRITTEN_FOR) && PURSEGABLE_WRITTEN_FOR != PURSEGABLE_VERSION_MAJOR
 #error "this program was written for another major version of pursegable: CHANGELOG.md says what changed"
@@ -46,7 +46,8 @@ extern "C" {
 /* ---- answers */
 
 /* The answers, of every function. A layout answers 1 before all others; then of the nodes, from 0 up, the first of 2 to 5; then what the
- * run meets first of 6 to 9. A constructor's order is 1, 11, 3 or 5, 12, 10. */
+ * run meets first of 6 to 9. A constructor's order is 1, 11, 3 or 5, 12, 10. Why answers 1 to 5 as a layout does, then 13 or what the run
+ * up to the visit meets. */
 enum {
     PURSEGABLE_OK = 0,           /* done */
     PURSEGABLE_BAD_SIZE = 1,     /* table empty, not a multiple of 4 words, or above 4,096 words; text or output above 65,536 bytes;
@@ -63,7 +64,8 @@ enum {
     PURSEGABLE_NO_EVENTS = 9,    /* an event doesn't fit */
     PURSEGABLE_NO_NODES = 10,    /* constructors: nodes don't fit in 1,024 or in the lent table */
     PURSEGABLE_BAD_OPERAND = 11, /* constructors: an operand is no present node */
-    PURSEGABLE_NO_TEXT = 12      /* constructors: text bytes don't fit in 65,536 or in the lent text */
+    PURSEGABLE_NO_TEXT = 12,     /* constructors: text bytes don't fit in 65,536 or in the lent text */
+    PURSEGABLE_NO_VISIT = 13     /* why: the step is no visit of a Group met broken in layout */
 };
 
 /* An answer in words, for a message: static, and never null. */
@@ -96,6 +98,8 @@ static inline const char *pursegable_answer_text(uint32_t answer)
         return "an operand is no present node";
     case PURSEGABLE_NO_TEXT:
         return "the bytes don't fit the text";
+    case PURSEGABLE_NO_VISIT:
+        return "the step is no visit of a group met broken in layout";
     default:
         return "no answer of this version";
     }
@@ -217,6 +221,42 @@ uint32_t pursegable_layout_words(const uint32_t *table, size_t table_len,
                                  uint32_t *events, size_t events_len,
                                  uint32_t *work, size_t work_len,
                                  uint32_t *report, size_t report_len);
+
+/* ---- why a group broke */
+
+/* The words of why's report, and its reasons. */
+#define PURSEGABLE_WHY_ANSWER 0
+#define PURSEGABLE_WHY_BROKEN 1 /* 0 flat, 1 broken */
+#define PURSEGABLE_WHY_REASON 2
+#define PURSEGABLE_WHY_NODE 3
+#define PURSEGABLE_WHY_COLUMN 4
+
+enum {
+    PURSEGABLE_AT_FAIL = 1,         /* broken: a Fail */
+    PURSEGABLE_HARDLINE_INSIDE = 2, /* broken: a Hardline inside the group */
+    PURSEGABLE_TEXT_PAST = 3,       /* broken: a Text ending past the width */
+    PURSEGABLE_NOTHING_LEFT = 4,    /* flat: nothing was left */
+    PURSEGABLE_HARDLINE_AFTER = 5   /* flat: a Hardline after the group */
+};
+
+/* Why the Group that is visited at a step goes flat or broken. Returns the answer.
+ *
+ * It takes what pursegable_layout_words takes, and a step number, which names a visit of that run: 1 is the root's. If that visit is a
+ * Group met broken in layout, in a trial too, the answer is 0, and `report` gets 0 or 1 (flat or broken), the reason, the node and the
+ * column: those of the first node that the group's fit test meets that breaks it or ends it flat. The column is that reached at the
+ * node, for a Text at its end; flat gives column 0, and nothing left gives node 0. The limit counts only up to the visit, so the two
+ * may be equal, and the time doesn't grow with what the group unfolds to.
+ *
+ * A step that is no such visit is PURSEGABLE_NO_VISIT, 0 too; a run that ends before that step gives its own 6 to 9, or
+ * PURSEGABLE_NO_VISIT if it ends with 0. With a refusal every other word is 0. `out`, `events` and `work` are zero after every call;
+ * a report below five words is answer 1, as with pursegable_layout. */
+uint32_t pursegable_why(const uint32_t *table, size_t table_len,
+                        const uint8_t *text, size_t text_len,
+                        uint32_t width, uint32_t limit, uint32_t step,
+                        uint8_t *out, size_t out_len,
+                        uint32_t *events, size_t events_len,
+                        uint32_t *work, size_t work_len,
+                        uint32_t *report, size_t report_len);
 
 /* ---- constructors
  *

@@ -50,6 +50,12 @@ static void layout_words(void)
                             PURSEGABLE_WORK_WORDS, report, PURSEGABLE_REPORT_WORDS);
 }
 
+static void why(void)
+{
+    pursegable_why(DOCUMENT, 5, 1000000, 3, out, sizeof out, event_words, PURSEGABLE_EVENT_WORDS * PURSEGABLE_MOST_EVENTS, work,
+                   PURSEGABLE_WORK_WORDS, report, PURSEGABLE_REPORT_WORDS);
+}
+
 static void make(void)
 {
     pursegable_make(what, operand, operand, what == PURSEGABLE_ENCLOSE ? operand : 0, LENT);
@@ -154,6 +160,7 @@ int main(void)
     wrong |= told("pursegable_sheet", taken(sheet), PURSEGABLE_STACK_LAYOUT);
     wrong |= told("pursegable_label", taken(label), PURSEGABLE_STACK_LAYOUT);
     wrong |= told("pursegable_layout_words", taken(layout_words), PURSEGABLE_STACK_OTHER);
+    wrong |= told("pursegable_why", taken(why), PURSEGABLE_STACK_OTHER);
     for (what = 0; what <= PURSEGABLE_ENCLOSE; what++) {
         size_t took = taken(make);
         most = took > most ? took : most;

@@ -36,6 +36,23 @@ extern "C" {
         report: *mut u32,
         report_len: usize,
     ) -> u32;
+    fn pursegable_why(
+        table: *const u32,
+        table_len: usize,
+        text: *const u8,
+        text_len: usize,
+        width: u32,
+        limit: u32,
+        step: u32,
+        out: *mut u8,
+        out_len: usize,
+        events: *mut u32,
+        events_len: usize,
+        work: *mut u32,
+        work_len: usize,
+        report: *mut u32,
+        report_len: usize,
+    ) -> u32;
     fn pursegable_sheet(
         table: *const u32,
         table_len: usize,
@@ -119,6 +136,17 @@ impl Lent {
         self.report.resize(call.report, 0x5a5a_5a5a);
     }
 
+    /// Why the visit at a step goes flat or broken.
+    pub fn why(&mut self, table: &[u32], text: &[u8], width: u32, limit: u32, step: u32) -> u32 {
+        let (t, tl, x, xl) = (table.as_ptr(), table.len(), text.as_ptr(), text.len());
+        let (o, ol) = (self.out.as_mut_ptr(), self.out.len());
+        let (e, el) = (self.events.as_mut_ptr(), self.events.len());
+        let (w, wl) = (self.work.as_mut_ptr(), self.work.len());
+        let (r, rl) = (self.report.as_mut_ptr(), self.report.len());
+        // SAFETY: as in `call`.
+        unsafe { pursegable_why(t, tl, x, xl, width, limit, step, o, ol, e.cast(), 3 * el, w, wl, r, rl) }
+    }
+
     /// The call itself. Sheet and label don't look at the width and the limit.
     pub fn call(&mut self, export: Export, table: &[u32], text: &[u8], width: u32, limit: u32) -> u32 {
         let (t, tl, x, xl) = (table.as_ptr(), table.len(), text.as_ptr(), text.len());
@@ -165,6 +193,24 @@ pub fn differs(export: Export, call: &Call, lent: &mut Lent, wanted: &Report) ->
     }
     if !zero(&lent.work) {
         return Some(format!("{export:?}: work is not zero"));
+    }
+    None
+}
+
+/// What differs between our library's `why`, on soiled buffers, and the model's five words; nothing if all is the same.
+pub fn why_differs(call: &Call, step: u32, lent: &mut Lent, wanted: [u32; 5]) -> Option<String> {
+    lent.soil(call);
+    let answer = lent.why(&call.table.words, &call.table.text, call.width, call.limit, step);
+    let wanted = if call.report < 5 { [1, 0, 0, 0, 0] } else { wanted };
+    if answer != wanted[0] || call.report >= 5 && lent.report[..5] != wanted {
+        return Some(format!("why at step {step}: {answer}, report {:?}, not {wanted:?}", lent.report));
+    }
+    if !zero(lent.report.get(if call.report < 5 { 0 } else { 5 }..).unwrap_or_default()) {
+        return Some(format!("why at step {step}: the report's other words are {:?}", lent.report));
+    }
+    let none = Event { offset: 0, mark: 0, label: 0 };
+    if !zero(&lent.out) || lent.events.iter().any(|&e| e != none) || !zero(&lent.work) {
+        return Some(format!("why at step {step}: a buffer is not zero"));
     }
     None
 }

@@ -59,6 +59,27 @@ pub struct Run {
     pub waited: usize,
 }
 
+/// Why the Group that is visited at a step goes flat or broken (document 02, request 2026-01): the answer, 0 flat or 1 broken, the reason,
+/// the node and the column.
+pub fn why(given: &Given, step: u32) -> [u32; 5] {
+    let refused = |answer| [answer, 0, 0, 0, 0];
+    if !sizes_right(given) {
+        return refused(1);
+    }
+    if let Some((answer, _)) = fault(given.table, given.text) {
+        return refused(answer);
+    }
+    if step == 0 {
+        return refused(13);
+    }
+    let mut machine = Machine::new(given, step);
+    match machine.run() {
+        _ if machine.told.is_some() => machine.told.unwrap_or_default(),
+        Ok(()) => refused(13),
+        Err(Refused(answer, _)) => refused(answer),
+    }
+}
+
 /// A whole call: sizes, validation, the run.
 pub fn call(given: &Given) -> Run {
     let refused = |answer, place| Run {
@@ -189,26 +210,13 @@ struct Machine<'a> {
     clean: bool,
     marks: bool,
     waited: usize,
+    /// the visit that `why` asks for, 0 for none, and what it answers
+    asked: u32,
+    told: Option<[u32; 5]>,
 }
 
 fn lay_out(given: &Given) -> Run {
-    let mut m = Machine {
-        given,
-        links: Vec::new(),
-        waiting: 0,
-        depth: 0,
-        trials: Vec::new(),
-        column: 0,
-        open: 0,
-        steps: 0,
-        bytes: Vec::new(),
-        events: Vec::new(),
-        clean: true,
-        marks: true,
-        waited: 0,
-    };
-    let root = given.table.len() as u32 / 4 - 1;
-    m.wait(Entry::Node { node: root, indent: 0, mode: Mode::Broken });
+    let mut m = Machine::new(given, 0);
     let ended = m.run();
     let (clean, marks_clean, waited, steps) = (m.clean, m.clean && m.marks, m.waited, m.steps);
     let report = match ended {
@@ -216,6 +224,32 @@ fn lay_out(given: &Given) -> Run {
         Err(Refused(answer, place)) => Report { answer, place, steps, ..Report::default() },
     };
     Run { report, clean, marks_clean, waited }
+}
+
+impl<'a> Machine<'a> {
+    /// The root waits.
+    fn new(given: &'a Given<'a>, asked: u32) -> Machine<'a> {
+        let mut machine = Machine {
+            given,
+            links: Vec::new(),
+            waiting: 0,
+            depth: 0,
+            trials: Vec::new(),
+            column: 0,
+            open: 0,
+            steps: 0,
+            bytes: Vec::new(),
+            events: Vec::new(),
+            clean: true,
+            marks: true,
+            waited: 0,
+            asked,
+            told: None,
+        };
+        let root = given.table.len() as u32 / 4 - 1;
+        machine.wait(Entry::Node { node: root, indent: 0, mode: Mode::Broken });
+        machine
+    }
 }
 
 impl Machine<'_> {
@@ -270,6 +304,10 @@ impl Machine<'_> {
         self.waited = self.waited.max(self.depth);
         self.step(node)?;
         let [kind, a, b, c] = self.words(node);
+        if self.steps == self.asked {
+            self.told = Some(if kind == GROUP && mode == Mode::Broken { self.reason(a) } else { [13, 0, 0, 0, 0] });
+            return Err(Refused(13, 0));
+        }
         let go_on = |node| Entry::Node { node, indent, mode };
         match kind {
             NIL => {}
@@ -401,6 +439,9 @@ impl Machine<'_> {
             };
             self.waited = self.waited.max(own.len());
             self.step(node)?;
+            if self.steps == self.asked {
+                return Err(Refused(13, 0));
+            }
             let [kind, a, b, c] = self.words(node);
             match kind {
                 NIL => {}
@@ -418,5 +459,71 @@ impl Machine<'_> {
                 _ => return Ok(false),
             }
         }
+    }
+
+    /// The first node that a fit test of this child meets that breaks it or ends it flat. Where the column is not past the width, what
+    /// has no columns and no end is passed over whole, so that what is shared takes no time.
+    fn reason(&self, child: u32) -> [u32; 5] {
+        let plain = self.plain();
+        let width = self.given.width as usize;
+        let mut own = vec![child];
+        let mut mode = Mode::Flat;
+        let mut column = self.column;
+        let mut next = self.waiting;
+        loop {
+            let node = match own.pop() {
+                Some(node) => node,
+                None if next == 0 => return [0, 0, 4, 0, 0],
+                None => {
+                    mode = Mode::Broken;
+                    let link = self.links[next - 1];
+                    next = link.behind;
+                    match link.entry {
+                        Entry::Node { node, .. } => node,
+                        _ => continue,
+                    }
+                }
+            };
+            if column <= width && plain[node as usize][(mode == Mode::Flat) as usize] {
+                continue;
+            }
+            let [kind, a, b, c] = self.words(node);
+            match kind {
+                NIL => {}
+                APPEND => own.extend([b, a]),
+                GROUP | NEST | ALIGN | ANNOTATED => own.push(a),
+                UNION => own.push(b),
+                FLAT_ALT => own.push(if mode == Mode::Flat { b } else { a }),
+                TEXT => {
+                    column += c as usize;
+                    if column > width {
+                        return [0, 1, 3, node, column as u32];
+                    }
+                }
+                HARDLINE if mode == Mode::Flat => return [0, 1, 2, node, column as u32],
+                HARDLINE => return [0, 0, 5, node, 0],
+                _ => return [0, 1, 1, node, column as u32],
+            }
+        }
+    }
+
+    /// For each node, read broken and read flat: whether it has neither columns nor a Fail or Hardline.
+    fn plain(&self) -> Vec<[bool; 2]> {
+        let mut plain: Vec<[bool; 2]> = Vec::new();
+        for node in self.given.table.chunks_exact(4) {
+            let of = |child: u32| plain[child as usize];
+            let (a, b) = (node[1], node[2]);
+            let own = match node[0] {
+                NIL => [true; 2],
+                APPEND => [of(a)[0] && of(b)[0], of(a)[1] && of(b)[1]],
+                GROUP | NEST | ALIGN | ANNOTATED => of(a),
+                UNION => of(b),
+                FLAT_ALT => [of(a)[0], of(b)[1]],
+                TEXT => [node[3] == 0; 2],
+                _ => [false; 2],
+            };
+            plain.push(own);
+        }
+        plain
     }
 }

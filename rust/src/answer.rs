@@ -47,6 +47,8 @@ pub enum Refusal {
     BadOperand,
     /// 12: the bytes don't fit the text.
     NoText,
+    /// 13: the step is no visit of a group met broken in layout.
+    NoVisit,
     /// A number that has no case here: the archive is newer than this crate.
     Other(u32),
 }
@@ -72,6 +74,7 @@ impl Refusal {
             Refusal::NoNodes => 10,
             Refusal::BadOperand => 11,
             Refusal::NoText => 12,
+            Refusal::NoVisit => 13,
             Refusal::Other(number) => number,
         }
     }
@@ -100,6 +103,7 @@ impl Refusal {
             10 => Refusal::NoNodes,
             11 => Refusal::BadOperand,
             12 => Refusal::NoText,
+            13 => Refusal::NoVisit,
             other => Refusal::Other(other),
         })
     }
@@ -123,6 +127,7 @@ impl Refusal {
             Refusal::NoNodes => "the nodes don't fit the table",
             Refusal::BadOperand => "an operand is no present node",
             Refusal::NoText => "the bytes don't fit the text",
+            Refusal::NoVisit => "the step is no visit of a group met broken in layout",
             Refusal::Other(_) => "no answer of this version",
         }
     }

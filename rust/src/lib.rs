@@ -25,6 +25,7 @@
 //! | build a document | [`Draft`], with [`Block`] for the block layouts |
 //! | lay it out, with marks, in buffers used again | [`Strip`], which gives [`Laid`] |
 //! | lay out a table that is there | [`layout`](fn@layout), [`sheet`], [`label`] |
+//! | ask why a group broke | [`why`](fn@why), which gives a [`Reason`] |
 //! | call the exports with numbers as C does | [`raw`] |
 //!
 //! The page `docs/FROM-PRETTY.md` of the repository says what each function of crate pretty is here.
@@ -47,6 +48,7 @@ mod node;
 #[allow(unsafe_code)]
 pub mod raw;
 pub mod sizes;
+mod why;
 
 pub use answer::{Laid, Refusal, Refused};
 pub use block::Block;
@@ -54,6 +56,7 @@ pub use draft::Draft;
 pub use event::{Event, Events, Mark, Piece, Pieces};
 pub use layout::{Strip, label, layout, sheet};
 pub use node::{Node, Operand};
+pub use why::{Reason, why};
 
 /// The Rust of the page for those who come from crate pretty, run as tests.
 #[cfg(doctest)]

@@ -157,6 +157,50 @@ pub fn layout_words(
     }
 }
 
+/// Why a group broke: `pursegable_why`.
+///
+/// ```
+/// use pursegable::{raw, sizes::WORK_WORDS};
+///
+/// let (mut out, mut events, mut work, mut report) = ([0; 8], [0; 6], [0; WORK_WORDS], [0; 5]);
+/// let table = [6, 0, 3, 3, 2, 0, 0, 0];
+/// assert_eq!(raw::why(&table, b"Dis", 2, 1, 1, &mut out, &mut events, &mut work, &mut report), 0);
+/// assert_eq!(report, [0, 1, 3, 0, 3]);
+/// ```
+#[allow(clippy::too_many_arguments)] // as many as the export has
+pub fn why(
+    table: &[u32],
+    text: &[u8],
+    width: u32,
+    limit: u32,
+    step: u32,
+    out: &mut [u8],
+    events: &mut [u32],
+    work: &mut [u32],
+    report: &mut [u32],
+) -> u32 {
+    // SAFETY: as in `layout`.
+    unsafe {
+        export::pursegable_why(
+            table.as_ptr(),
+            table.len(),
+            text.as_ptr(),
+            text.len(),
+            width,
+            limit,
+            step,
+            out.as_mut_ptr(),
+            out.len(),
+            events.as_mut_ptr(),
+            events.len(),
+            work.as_mut_ptr(),
+            work.len(),
+            report.as_mut_ptr(),
+            report.len(),
+        )
+    }
+}
+
 /// Makes what a number names, of words as a node has them: `pursegable_make`.
 ///
 /// ```

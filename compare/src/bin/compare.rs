@@ -3,6 +3,7 @@
 //! random=N  layouts of random valid tables, with all the room: model, crate, archive
 //! calls=N   calls of random tables, limits and rooms, often spoilt: model and archive, every buffer
 //! nodes=K   every table of 1 to K nodes, at the widths 0 to 4: model, crate, archive
+//! Each call is followed by one of `why` at one of its steps: model and archive, every buffer.
 //!
 //! Ends with status 1 if a clean run's bytes differ from the crate's, a marks-clean run's events do, or anything at all
 //! differs from the archive.
@@ -108,6 +109,9 @@ struct Tally {
     unclean_other: u64,
     unmarked_other: u64,
     archive_calls: u64,
+    /// the answers of `why`, and its reasons
+    whys: BTreeMap<u32, u64>,
+    reasons: BTreeMap<u32, u64>,
     answers: BTreeMap<u32, u64>,
     wrong: u64,
     #[cfg(archive)]
@@ -176,6 +180,25 @@ impl Tally {
         if let Some(what) = compare::archive::differs(export, call, &mut self.lent, report) {
             self.differs(call, &format!("the archive, {what}"), report);
         }
+        self.why_beside_archive(call, report);
+    }
+
+    /// Why, at one of the run's steps, at 0 or past its end; every seventh time with the step itself as limit.
+    #[cfg(archive)]
+    fn why_beside_archive(&mut self, call: &Call, report: &Report) {
+        let step = (self.archive_calls * 7919 % (u64::from(report.steps) + 3)) as u32;
+        let mut call = call.clone();
+        if self.archive_calls % 7 == 0 && step <= call.limit {
+            call.limit = step;
+        }
+        let wanted = compare::model::why(&call.given(), step);
+        *self.whys.entry(wanted[0]).or_default() += 1;
+        if wanted[0] == 0 {
+            *self.reasons.entry(wanted[2]).or_default() += 1;
+        }
+        if let Some(what) = compare::archive::why_differs(&call, step, &mut self.lent, wanted) {
+            self.differs(&call, &format!("the archive, {what}"), report);
+        }
     }
 
     #[allow(dead_code)]
@@ -203,6 +226,8 @@ impl Tally {
         }
         if cfg!(archive) {
             println!("with our archive: compared {}", self.archive_calls);
+            let counted = |counts: &BTreeMap<u32, u64>| counts.iter().map(|(n, times)| format!("{n}: {times}")).collect::<Vec<_>>().join(", ");
+            println!("why: answers {}; reasons {}", counted(&self.whys), counted(&self.reasons));
         }
         println!("DIFFERENT where they must not: {}", self.wrong);
     }

@@ -42,7 +42,7 @@ ruled-is r r′ a p s b e = λ i. record { answer = a i; place = p i; steps = s 
 run-past-five : (x : rules.Outcome) → 0 < rules.report x .answer → 6 ≤ rules.report x .answer
 run-past-five (rules.done p o s) z = absurd (omega arith)
 run-past-five (rules.failed s) z = omega arith
-run-past-five (rules.refused rules.steps n s) z = omega arith
+run-past-five (rules.refused (rules.steps d) n s) z = omega arith
 run-past-five (rules.refused rules.bytes n s) z = omega arith
 run-past-five (rules.refused rules.events n s) z = omega arith
 

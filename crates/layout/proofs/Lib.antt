@@ -1,5 +1,5 @@
 -- Laws of a whole call, and the demands: for every form of a call, and for the calls over words.
 mod Words
-mod Whole
+pub mod Whole
 pub mod Returned
 pub mod Demands

@@ -29,7 +29,7 @@ pub struct Report {
 }
 
 // Whether the buffers, the width and the limit are within their bounds.
-fn buffers_right(out: usize, events: usize, work: usize, width: u32, limit: u32) -> bool
+pub fn buffers_right(out: usize, events: usize, work: usize, width: u32, limit: u32) -> bool
     ensures { λ r. ⌜ r ≡ buffersRight (given [] [] width limit out events work) ⌝ }
 {
     (out <= 65536)

@@ -13,7 +13,7 @@ use borrow.Author.Tests.{eq-eqb, ne-eqb}
 use Rattle.table.specs.Unfold.{Tree}
 use Rattle.rules.specs.Layout.{Limits, Page, Mode, Event, Refusal, Outcome, done, failed, refused, next, also, andThen, try}
 use Rattle.rules.specs.Layout as rules
-use Rattle.machine.specs.Waiting.{Saved, save, Entry, node, trial, closing, back, nextIndent}
+use Rattle.machine.specs.Waiting.{Saved, save, Entry, node, trial, closing, back, nextIndent, waiting}
 use Rattle.machine.specs.Well.{Stacked}
 
 -- ---- a step, where `left` of the limit are left
@@ -90,14 +90,7 @@ more-agrees p vs = record { outs = refl; marks = sym (take-append-le (length (p 
 -- ---- how a run ends
 
 module _ (L : Limits) (at : ℕ → Tree) where
-  -- the waiting nodes; ends are looked past
-  unfoldable pub waiting : List Entry → List rules.Entry
-  waiting [] = []
-  waiting (node n i m ∷ w) = record { what = at n; ind = i } ∷ waiting w
-  waiting (trial b i m a ∷ w) = waiting w
-  waiting (closing n l ∷ w) = waiting w
-
-  pub next-is : (i : ℕ) (w : List Entry) → next (waiting w) i ≡ nextIndent i w
+  pub next-is : (i : ℕ) (w : List Entry) → next (waiting at w) i ≡ nextIndent i w
   unfolding waiting
   next-is i [] = refl
   next-is i (node n j m ∷ w) = refl
@@ -107,8 +100,8 @@ module _ (L : Limits) (at : ℕ → Tree) where
   -- What was on top ended as x, trials put back from the page p, and o says whether a Text laid before in the innermost trial ended past width.
   unfoldable pub finish : Page → List Entry → Bool → Outcome → Outcome
   finish p [] o x = also o x
-  finish p (node n i m ∷ w) o x = finish p w o (andThen x (λ p s. rules.lay L (at n) i m (waiting w) p s))
-  finish p (trial b i m a ∷ w) o x = finish (back a p) w (a .past) (try (also o x) (λ s. rules.lay L (at b) i m (waiting w) (back a p) s))
+  finish p (node n i m ∷ w) o x = finish p w o (andThen x (λ p s. rules.lay L (at n) i m (waiting at w) p s))
+  finish p (trial b i m a ∷ w) o x = finish (back a p) w (a .past) (try (also o x) (λ s. rules.lay L (at b) i m (waiting at w) (back a p) s))
   finish p (closing n l ∷ w) o x = finish p w o (andThen x (λ p s. rules.event L n 0 l p s))
 
   unfoldable pub whole : Page → List Entry → Bool → ℕ → Outcome
@@ -120,7 +113,7 @@ module _ (L : Limits) (at : ℕ → Tree) where
   finish-also p [] o q x = also-also o q x
   finish-also p (node n i m ∷ w) o q x = ap (finish p w o) (then-also q x _) ∙ finish-also p w o q _
   finish-also p (trial b i m a ∷ w) o q x =
-      ap (λ y. finish (back a p) w (a .past) (try y (λ s. rules.lay L (at b) i m (waiting w) (back a p) s))) (also-also o q x)
+      ap (λ y. finish (back a p) w (a .past) (try y (λ s. rules.lay L (at b) i m (waiting at w) (back a p) s))) (also-also o q x)
   finish-also p (closing n l ∷ w) o q x = ap (finish p w o) (then-also q x _) ∙ finish-also p w o q _
 
   -- a refusal ends the whole call
@@ -137,12 +130,12 @@ module _ (L : Limits) (at : ℕ → Tree) where
   finish-same N r b v p q [] o x s e = refl
   finish-same N r b v p q (node n i m ∷ w) o x s e = finish-same N r b v p q w o _ (s .1) e
   finish-same N r b v p q (trial d i m a ∷ w) o x s e =
-      ap (λ r. finish r w (a .past) (try (also o x) (λ s. rules.lay L (at d) i m (waiting w) r s))) (back-same a b v p q (s .1 .bytes) (s .1 .events) e)
+      ap (λ r. finish r w (a .past) (try (also o x) (λ s. rules.lay L (at d) i m (waiting at w) r s))) (back-same a b v p q (s .1 .bytes) (s .1 .events) e)
   finish-same N r b v p q (closing n l ∷ w) o x s e = finish-same N r b v p q w o _ (s .1) e
 
   -- the node on top
   pub whole-node : (p : Page) (n i : ℕ) (m : Mode) (w : List Entry) (o : Bool) (s : ℕ)
-      → whole p (node n i m ∷ w) o s ≡ finish p w o (rules.lay L (at n) i m (waiting w) p s)
+      → whole p (node n i m ∷ w) o s ≡ finish p w o (rules.lay L (at n) i m (waiting at w) p s)
   unfolding whole finish
   whole-node p n i m w o s = ap (finish p w o) (also-false _)
 

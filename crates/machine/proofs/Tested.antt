@@ -12,10 +12,10 @@ use Rattle.table.specs.Unfold.{Tree, treeOf}
 use Rattle.table.specs.Sound.{Sound, AllSound}
 use Rattle.rules.specs.Layout.{Limits, Mode, flat, broken, says, spent}
 use Rattle.rules.specs.Layout as rules
-use Rattle.machine.specs.Waiting.{Entry, node, trial, closing}
+use Rattle.machine.specs.Waiting.{Entry, node, trial, closing, waiting}
 use Rattle.machine.specs.Fit.{Verdict, fits, wide, due, Item, item, reread, Walked, walk, say, textFits, look, fit}
 use Rattle.machine.specs.Well.{Nodes}
-use Rattle.machine.proofs.Ends.{visit-goes, visit-stops, waiting}
+use Rattle.machine.proofs.Ends.{visit-goes, visit-stops}
 
 -- every node to walk is one of the first N
 abbrev pub Items : ℕ → List Item → Type 0
@@ -58,7 +58,7 @@ module _ (L : Limits) (at : ℕ → Tree) where
   walks [] c s = says true s
   walks (item n m ∷ is) c s = rules.fit L (at n) m (walks is) c s
 
-  pub walks-rest : (w : List Entry) → walks (reread w) ≡ rules.rest L (waiting L at w)
+  pub walks-rest : (w : List Entry) → walks (reread w) ≡ rules.rest L (waiting at w)
   unfolding walks waiting rules.rest
   walks-rest [] = refl
   walks-rest (node n i m ∷ w) = ap (λ k c s. rules.fit L (at n) broken k c s) (walks-rest w)

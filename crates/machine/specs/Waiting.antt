@@ -1,9 +1,12 @@
--- What waits: nodes, and the ends of trials and of annotations. What a trial saves, and the page that is put back when it is given up.
+-- What waits: nodes, and the ends of trials and of annotations. What a trial saves, and the page that is put back when it is given up. The waiting
+-- nodes as the rules have them.
 use Prim.Native.Nat.{ℕ}
 use mathlib.Core.Bool.{Bool}
 use mathlib.Core.List.{List, [], _∷_}
 use lib.ListN.{length, take}
+use Rattle.table.specs.Unfold.{Tree}
 use Rattle.rules.specs.Layout.{Mode, Page}
+use Rattle.rules.specs.Layout as rules
 
 -- what a trial saves: the page before the Union, by its column and how many bytes and events it had; and whether a Text had ended past width
 pub record Saved : Type 0 where
@@ -36,3 +39,10 @@ nextIndent own [] = own
 nextIndent own (node n i m ∷ w) = i
 nextIndent own (trial x i m s ∷ w) = nextIndent own w
 nextIndent own (closing n l ∷ w) = nextIndent own w
+
+-- the waiting nodes, where node n unfolds to `at n`; ends are looked past
+unfoldable pub waiting : (ℕ → Tree) → List Entry → List rules.Entry
+waiting at [] = []
+waiting at (node n i m ∷ w) = record { what = at n; ind = i } ∷ waiting at w
+waiting at (trial b i m a ∷ w) = waiting at w
+waiting at (closing n l ∷ w) = waiting at w

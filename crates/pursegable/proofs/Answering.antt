@@ -21,7 +21,7 @@ use Rattle.pursegable.specs.Exported.{reportWords, fiveOf, five, told, n
 abbrev pub limited : Given → ℕ → Given
 limited g limit = record { table = g .table; text = g .text; width = g .width; limit = limit; room = g .room; slots = g .slots; work = g .work }
 
-last-fails : (a : Bool) → (a && false) ≡ false
+pub last-fails : (a : Bool) → (a && false) ≡ false
 last-fails true = refl
 last-fails false = refl
 

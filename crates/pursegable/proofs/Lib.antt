@@ -2,5 +2,6 @@
 pub mod Answering
 pub mod Defaults
 pub mod Demands
+pub mod WhyExports
 mod Making
 mod Flags

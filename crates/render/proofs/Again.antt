@@ -22,8 +22,9 @@ use Rattle.render.specs.Visit.{again, Held, Came}
 -- one turn after the others
 again-more : (E : Env) (k : ℕ) (t : Turned) → again E (suc k) t ≡ again E 1 (again E k t)
 again-more E zero t = refl
-again-more E (suc k) (on p left o []) = refl
-again-more E (suc k) (on p left o (e ∷ w)) = again-more E k (turn E p left o e w)
+again-more E (suc k) (on p zero o w) = refl
+again-more E (suc k) (on p (suc left) o []) = refl
+again-more E (suc k) (on p (suc left) o (e ∷ w)) = again-more E k (turn E p (suc left) o e w)
 again-more E (suc k) (stop a n left) = refl
 
 -- no more steps, a larger measure
@@ -33,9 +34,10 @@ next-within L N left left′ μ μ′ (stop a n l) le lm h = (h .0, omega (arith
 
 pub again-next : (E : Env) (N : ℕ) → AllSound (E .table) (length (E .str)) N → (k left μ : ℕ) (t : Turned) → Next (E .limits) N left μ t → Next (E .limits) N left μ (again E k t)
 again-next E N valid zero left μ t h = h
-again-next E N valid (suc k) left μ (on p l o []) h = h
-again-next E N valid (suc k) left μ (on p l o (e ∷ w)) h =
-    again-next E N valid k left μ (turn E p l o e w) (next-within (E .limits) N l left (3 * l + weight (e ∷ w)) μ (turn E p l o e w) (h .1) (omega (arith, h .2)) (turn-next E N valid p l o e w (h .0)))
+again-next E N valid (suc k) left μ (on p zero o w) h = h
+again-next E N valid (suc k) left μ (on p (suc l) o []) h = h
+again-next E N valid (suc k) left μ (on p (suc l) o (e ∷ w)) h =
+    again-next E N valid k left μ (turn E p (suc l) o e w) (next-within (E .limits) N (suc l) left (3 * suc l + weight (e ∷ w)) μ (turn E p (suc l) o e w) (h .1) (omega (arith, h .2)) (turn-next E N valid p (suc l) o e w (h .0)))
 again-next E N valid (suc k) left μ (stop a n l) h = h
 
 -- ---- Nests in a row

@@ -1,6 +1,6 @@
 -- The run: what the loop keeps, and how a turn keeps it.
 -- Assumes nothing.
-use mathlib.Core.Path.{_≡_, refl, sym, ap, _∙_}
+use mathlib.Core.Path.{_≡_, refl, sym, ap, subst, _∙_}
 use Prim.Native.Nat.{ℕ, suc, zero, _+_, _-_, _*_, _≤_, _<_}
 use native.Mathlib.Omega.{arith}
 use mathlib.Core.Bool.{Bool, true, false}
@@ -15,10 +15,12 @@ use Rattle.rules.specs.Layout.{Page, Report, marked}
 use Rattle.machine.specs.Waiting.{Entry, node, trial, closing}
 use Rattle.machine.specs.Turn.{Env, Turned, on, stop, turn, run, layout, ended}
 use Rattle.machine.specs.Well.{Well, weight}
-use Rattle.machine.proofs.Kept.{Next, turn-next}
+use Rattle.machine.specs.Reached.{Reached, Stops}
+use Rattle.machine.proofs.Kept.{Next, turn-next, nodes-of}
 use Rattle.waiting.specs.Area.{dueOf}
 use Rattle.waiting.specs.Stack.{flagOf, top, stackOf}
 use Rattle.waiting.specs.declared.Due.{Due}
+use Rattle.waiting.proofs.Laws.{length-stack}
 use Rattle.page.specs.Reading.{eventsOf, pageOf, Within}
 use Rattle.page.proofs.Events.{length-events}
 use Rattle.page.proofs.Pages.{taken-is}
@@ -28,7 +30,11 @@ use Rattle.lay.specs.declared.Turn.{Turn}
 use Rattle.lay.specs.declared.Turn.the-variants.{Go, Done, Stop}
 use Rattle.render.specs.Visit.{Start, Ready, envOf, again}
 use Rattle.render.specs.TakeUp.{takeUp, upFrom, TurnedUp}
-use Rattle.render.specs.Best.{Laid}
+use Rattle.render.specs.Best.{Laid, endOf, RanTo}
+use Rattle.render.specs.declared.End.{End}
+use Rattle.render.specs.declared.Ran.{Ran}
+use Rattle.render.specs.declared.Ran.the-variants.{Ended, AtLimit}
+use Rattle.render.proofs.Coming.{Comes, comes-on}
 
 -- ---- several turns of the step function in one
 
@@ -77,9 +83,10 @@ module _ (E : Env) (N : ℕ) (valid : AllSound (E .table) (length (E .str)) N) w
   -- some turns more
   run-again : (k left most : ℕ) (x : Report) (t : Turned) → Reaches left most x t → Reaches left most x (again E k t)
   run-again zero left most x t h = h
-  run-again (suc k) left most x (on p l o []) h = h
-  run-again (suc k) left most x (on p l o (e ∷ w)) h =
-      run-again k left most x (turn E p l o e w) (reaches-from l left (3 * l + weight (e ∷ w)) most x _ (turn E p l o e w) (h .2) (omega (arith, h .5)) (h .4) (run-turn (h .0) p l o e w (h .1) (h .3)))
+  run-again (suc k) left most x (on p zero o w) h = h
+  run-again (suc k) left most x (on p (suc l) o []) h = h
+  run-again (suc k) left most x (on p (suc l) o (e ∷ w)) h =
+      run-again k left most x (turn E p (suc l) o e w) (reaches-from (suc l) left (3 * suc l + weight (e ∷ w)) most x _ (turn E p (suc l) o e w) (h .2) (omega (arith, h .5)) (h .4) (run-turn (h .0) p (suc l) o e w (h .1) (h .3)))
   run-again (suc k) left most x (stop a n l) h = h
 
   -- a visit, some turns more, and what is taken up after them
@@ -122,6 +129,7 @@ module _ (T tx : List ℕ) (W limit N : ℕ) where
     pub left : s .left ≤ limit
     pub turns : ℕ
     pub enough : 3 * s .left + weight (top h ∷ stackOf (s .depth) w) < turns
+    pub reached : Reached (E out ev) (N - 1) (pageOf (s .page) out ev) (s .left) (flagOf (s .past)) (top h ∷ stackOf (s .depth) w)
     pub said : run (E out ev) turns (pageOf (s .page) out ev) (s .left) (flagOf (s .past)) (top h ∷ stackOf (s .depth) w) ≡ layout (E out₀ ev₀) (N - 1)
 
   pub going-start : (out ev w : List ℕ) → Start T tx out ev w W N
@@ -143,6 +151,7 @@ module _ (T tx : List ℕ) (W limit N : ℕ) where
         left = omega arith;
         turns = 3 * limit + 2;
         enough = omega arith;
+        reached = Reached.start;
         said = refl;
       }
 
@@ -156,11 +165,26 @@ module _ {T tx : List ℕ} {W limit N : ℕ} {out₀ ev₀ w₀ out ev w : List 
   here = E T tx W limit N out ev
 
   -- a node is due with no step left
-  pub laid-due : s .left ≡ 0 → Laid T tx out₀ ev₀ W limit N (record { answer = 7; place = h .node; left = 0; used = 0; events = 0 }) out ev
+  laid-due : s .left ≡ 0 → Laid T tx out₀ ev₀ W limit N (record { answer = 7; place = h .node; left = 0; used = 0; events = 0 }) out ev
   unfolding run turn eventsOf
   laid-due e =
       let f : g .turns ≡ suc (g .turns - 1) = omega (arith, g .enough) in
       record { same = rw (f, e) at (g .said); used = omega arith; events = omega arith; left = omega arith }
+
+  pub ran-due : s .left ≡ 0 → RanTo T tx out₀ ev₀ W limit N (AtLimit s h) out ev w
+  ran-due e =
+      let t = taken-is (s .page) out ev (g .within .bytes) in
+      record {
+        laid = laid-due e;
+        ends =
+            record {
+              reached = rw (← (g .outs), ← (g .evs)) (subst (λ k. Reached here (N - 1) (pageOf (s .page) out ev) k (flagOf (s .past)) (top h ∷ stackOf (s .depth) w)) e (g .reached));
+              node = omega (arith, g .well .stack .0 .number);
+              column = omega (arith, t, g .well .column, g .within .bytes, g .start .room);
+              depth = omega (arith, g .well .stack .0 .number, length-stack (s .depth) w, g .start .small);
+              nodes = nodes-of N _ _ _ (stackOf (s .depth) w) (g .well .stack .1);
+            };
+      }
 
   -- with a step left: the state that the turn starts from has one less
   module _ (some : s .left ≡ 0 → ⊥) where
@@ -188,6 +212,14 @@ module _ {T tx : List ℕ} {W limit N : ℕ} {out₀ ev₀ w₀ out ev w : List 
           rw (p .turning limit .same) (run-on here N (g .start .valid) (g .turns) (pageOf (s .page) out ev) (suc (s .left - 1)) (flagOf (s .past)) (top h) (stackOf (s .depth) w) (p .more) (g .well) (omega (arith, g .enough))) in
           reaches-from here N (g .start .valid) (suc (s .left - 1)) (s .left) _ _ _ _ (turnedOf r out′ ev′ w′) (omega arith) (omega arith) (sym (g .said) ∙ ap (λ (k : ℕ). run here (g .turns) (pageOf (s .page) out ev) k (flagOf (s .past)) (top h ∷ stackOf (s .depth) w)) f) t
 
+      -- and the states that it comes through are the run's
+      came : Comes here (N - 1) (turnedOf r out′ ev′ w′)
+      unfolding turn
+      came =
+          let f : s .left ≡ suc (s .left - 1) = omega arith in
+          let z = subst (λ k. Reached here (N - 1) (pageOf (s .page) out ev) k (flagOf (s .past)) (top h ∷ stackOf (s .depth) w)) f (g .reached) in
+          rw (p .turning limit .same) (comes-on here (N - 1) (p .more) z)
+
       pub going-on : {c : Due} {a : State} → r ≡ Go a c → Going T tx W limit N out₀ ev₀ w₀ out′ ev′ w′ c a
       going-on {c} {a} e =
           let t = rw e at reach in
@@ -202,6 +234,7 @@ module _ {T tx : List ℕ} {W limit N : ℕ} {out₀ ev₀ w₀ out ev w : List 
             left = omega (arith, t .2, g .left);
             turns = t .0;
             enough = t .3;
+            reached = rw (eo, ee) (rw e at came);
             said = rw (eo, ee) (sym (t .4));
           }
 
@@ -214,7 +247,7 @@ module _ {T tx : List ℕ} {W limit N : ℕ} {out₀ ev₀ w₀ out ev w : List 
           let q = rw e at (p .turning limit) in
           (omega (arith, q .within .bytes, eo, g .start .room), omega (arith, q .within .events, ee, g .start .slots))
 
-      pub laid-done : {a : State} → r ≡ Done a → Laid T tx out₀ ev₀ W limit N (record { answer = 0; place = record { 0 = 0 }; left = a .left; used = a .page .used; events = a .page .events }) out′ ev′
+      laid-done : {a : State} → r ≡ Done a → Laid T tx out₀ ev₀ W limit N (record { answer = 0; place = record { 0 = 0 }; left = a .left; used = a .page .used; events = a .page .events }) out′ ev′
       unfolding run
       laid-done {a} e =
           let t = rw e at reach in
@@ -223,8 +256,25 @@ module _ {T tx : List ℕ} {W limit N : ℕ} {out₀ ev₀ w₀ out ev w : List 
           let f : t .0 ≡ suc (t .0 - 1) = omega (arith, t .3) in
           record { same = sym (t .4 ∙ rw (z, f)); used = q .within .bytes; events = q .within .events; left = omega (arith, t .2, g .left) }
 
-      pub laid-stop : {a : ℕ} {n : NodeNo} {left : ℕ} → r ≡ Stop a n left → Laid T tx out₀ ev₀ W limit N (record { answer = a; place = n; left = left; used = 0; events = 0 }) out′ ev′
+      pub ran-done : {a : State} → r ≡ Done a → RanTo T tx out₀ ev₀ W limit N (Ended (record { answer = 0; place = record { 0 = 0 }; left = a .left; used = a .page .used; events = a .page .events })) out′ ev′ w′
+      ran-done e = record { laid = laid-done e; ends = λ seven. absurd (omega arith) }
+
+      laid-stop : {a : ℕ} {n : NodeNo} {left : ℕ} → r ≡ Stop a n left → Laid T tx out₀ ev₀ W limit N (record { answer = a; place = n; left = left; used = 0; events = 0 }) out′ ev′
       unfolding eventsOf
       laid-stop {a} {n} {left} e =
           let t = rw e at reach in
           record { same = sym (t .1); used = omega arith; events = omega arith; left = omega (arith, t .0, g .left) }
+
+      pub ran-stop : {a : ℕ} {n : NodeNo} {left : ℕ} → r ≡ Stop a n left → RanTo T tx out₀ ev₀ W limit N (Ended (record { answer = a; place = n; left = left; used = 0; events = 0 })) out′ ev′ w′
+      ran-stop {a} {n} {left} e =
+          let stops : Stops (E T tx W limit N out₀ ev₀) (N - 1) a (n .0) left = rw (← (g .outs), ← (g .evs)) (rw e at came) in
+          record { laid = laid-stop e; ends = λ seven. stops }
+
+-- ---- the end alone
+
+module _ {T tx out ev : List ℕ} {W limit N : ℕ} {r : Ran} {out′ ev′ w′ : List ℕ} (p : RanTo T tx out ev W limit N r out′ ev′ w′) where
+  pub best-ended : {e : End} → r ≡ Ended e → Laid T tx out ev W limit N e out′ ev′
+  best-ended same = subst (λ r. Laid T tx out ev W limit N (endOf r) out′ ev′) same (p .laid)
+
+  pub best-due : {s : State} {h : Due} → r ≡ AtLimit s h → Laid T tx out ev W limit N (record { answer = 7; place = h .node; left = 0; used = 0; events = 0 }) out′ ev′
+  best-due same = subst (λ r. Laid T tx out ev W limit N (endOf r) out′ ev′) same (p .laid)

@@ -2,5 +2,6 @@
 mod Visits
 mod Rising
 mod Turns
+mod Coming
 mod Going
 mod Again

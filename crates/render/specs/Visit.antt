@@ -52,11 +52,12 @@ visited T tx out ev w W limit s h =
     visit (envOf T tx out ev W limit) (h .node .0) (nodeAt T (h .node .0)) (h .indent .0) (modeOf (h .mode .0))
     (pageOf (s .page) out ev) (s .left) (flagOf (s .past)) (stackOf (s .depth) w)
 
--- so many turns of the step function more
+-- so many turns of the step function more, as far as there are steps
 abbrev pub again : Env → ℕ → Turned → Turned
 again E zero t = t
-again E (suc k) (on p left past []) = on p left past []
-again E (suc k) (on p left past (e ∷ w)) = again E k (turn E p left past e w)
+again E (suc k) (on p zero past w) = on p zero past w
+again E (suc k) (on p (suc left) past []) = on p (suc left) past []
+again E (suc k) (on p (suc left) past (e ∷ w)) = again E k (turn E p (suc left) past e w)
 again E (suc k) (stop a n left) = stop a n left
 
 -- it leads where the step function leads, by the visit and some turns more

@@ -1,4 +1,4 @@
-// The engine: `best` lays a valid table out, node after node.
+// The engine: `run` lays a valid table out, node after node; `best` tells its end alone.
 //
 // The node due is visited, then what waits is taken up: ends of annotations and of trials, until a node is due again or nothing waits.
 // Not an entry point of the library: the crate layout tests sizes and the table before it comes here, and clears the buffers after it.
@@ -13,7 +13,7 @@ use waiting::Due;
 use waiting::Mode;
 ghost use Rattle.render.specs.Visit.{Start, Ready, Visited, Held, Came};
 ghost use Rattle.render.specs.TakeUp.{Rises, TakenUp, TurnedUp};
-ghost use Rattle.render.specs.Best.{Laid};
+ghost use Rattle.render.specs.Best.{Laid, RanTo};
 
 // How a run ended: the answer, the place, the steps left, the bytes and the events used.
 pub struct End {
@@ -22,6 +22,12 @@ pub struct End {
     pub left: u32,
     pub used: u32,
     pub events: u32,
+}
+
+// How a run ended; or the state of the layout and the node due in it, where the steps equal the limit.
+pub enum Ran {
+    Ended(End),
+    AtLimit(State, Due),
 }
 
 // A node due, and the steps left.
@@ -193,7 +199,7 @@ fn turn(
 }
 
 // The run over a valid table of so many nodes: the root at indentation 0, broken.
-pub fn best(
+pub fn run(
     table: &[u32],
     text: &[u8],
     out: &mut [u8],
@@ -202,10 +208,10 @@ pub fn best(
     width: u32,
     limit: u32,
     nodes: u32,
-) -> End
+) -> Ran
     requires { ⌜ Start (now table) (now text) (now out) (now events) (now work) width nodes ⌝ }
-    ensures { λ r. ⌜ Laid (now (table .entry)) (now (text .entry)) (now (out .entry)) (now (events .entry)) width limit nodes
-        r (now (out .exit)) (now (events .exit)) ⌝ }
+    ensures { λ r. ⌜ RanTo (now (table .entry)) (now (text .entry)) (now (out .entry)) (now (events .entry)) width limit nodes
+        r (now (out .exit)) (now (events .exit)) (now (work .exit)) ⌝ }
 {
     let mut due = Due {
         node: NodeNo(nodes - 1),
@@ -224,14 +230,7 @@ pub fn best(
     };
     loop {
         if s.left == 0 {
-            let place = due.node;
-            return End {
-                answer: 7,
-                place,
-                left: 0,
-                used: 0,
-                events: 0,
-            };
+            return Ran::AtLimit(s, due);
         }
         s.left = s.left - 1;
         match turn(table, text, out, events, work, width, s, due) {
@@ -240,22 +239,52 @@ pub fn best(
                 s = on;
             }
             Turn::Done(on) => {
-                return End {
+                return Ran::Ended(End {
                     answer: 0,
                     place: NodeNo(0),
                     left: on.left,
                     used: on.page.used as u32,
                     events: on.page.events as u32,
-                };
+                });
             }
             Turn::Stop(answer, place, left) => {
-                return End {
+                return Ran::Ended(End {
                     answer,
                     place,
                     left,
                     used: 0,
                     events: 0,
-                };
+                });
+            }
+        }
+    }
+}
+
+// How the run ended, whatever was due.
+pub fn best(
+    table: &[u32],
+    text: &[u8],
+    out: &mut [u8],
+    events: &mut [u32],
+    work: &mut [u32],
+    width: u32,
+    limit: u32,
+    nodes: u32,
+) -> End
+    requires { ⌜ Start (now table) (now text) (now out) (now events) (now work) width nodes ⌝ }
+    ensures { λ r. ⌜ Laid (now (table .entry)) (now (text .entry)) (now (out .entry)) (now (events .entry)) width limit nodes
+        r (now (out .exit)) (now (events .exit)) ⌝ }
+{
+    match run(table, text, out, events, work, width, limit, nodes) {
+        Ran::Ended(end) => end,
+        Ran::AtLimit(_, due) => {
+            let place = due.node;
+            End {
+                answer: 7,
+                place,
+                left: 0,
+                used: 0,
+                events: 0,
             }
         }
     }

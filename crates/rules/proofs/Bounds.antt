@@ -9,7 +9,7 @@ use lib.Dec.{leb, ltb, eqb}
 use lib.ListN.{length, length-append}
 use borrow.Author.Tests.{leb-true, ltb-true, eqb-true, eqb-false}
 use Rattle.table.specs.Unfold.{Tree, nil, append, group, flatAlt, nest, hardline, text, annotated, union, align, fail}
-use Rattle.rules.specs.Layout.{Limits, Page, Mode, flat, broken, Entry, steps, bytes, events, Outcome, done, failed, refused, Fit, says, spent, nested, also, andThen, try, chosen, visit, look, fit, rest, step, put, event, lay, taken, marked}
+use Rattle.rules.specs.Layout.{Limits, Page, Mode, flat, broken, Entry, Due, other, steps, bytes, events, Outcome, done, failed, refused, Fit, says, spent, nested, also, andThen, try, chosen, visit, look, fit, rest, step, put, event, lay, taken, marked}
 
 module _ (L : Limits) where
   -- a page within the room for bytes and for events
@@ -21,7 +21,7 @@ module _ (L : Limits) where
   pub data Bounded : Outcome → Type 0 where
     done-within : {p : Page} {o : Bool} {s : ℕ} → InRoom p → s ≤ L .limit → Bounded (done p o s)
     failed-within : {s : ℕ} → s ≤ L .limit → Bounded (failed s)
-    at-limit : {n : ℕ} → Bounded (refused steps n (L .limit))
+    at-limit : {d : Due} {n : ℕ} → Bounded (refused (steps d) n (L .limit))
     no-bytes : {s : ℕ} → s ≤ L .limit → Bounded (refused bytes 0 s)
     no-event : {n s : ℕ} → s ≤ L .limit → Bounded (refused events n s)
 
@@ -70,8 +70,11 @@ module _ (L : Limits) where
   look-bounded : (n s : ℕ) {go : ℕ → Fit} → s ≤ L .limit → ((s : ℕ) → s ≤ L .limit → FitBounded (go s)) → FitBounded (look L n s go)
   look-bounded n s h k = visit-bounded FitBounded (spent n) s h stopped k
 
+  due-bounded : (d : Due) (n s : ℕ) {go : ℕ → Outcome} → s ≤ L .limit → ((s : ℕ) → s ≤ L .limit → Bounded (go s)) → Bounded (visit L (refused (steps d) n s) s go)
+  due-bounded d n s h k = visit-bounded Bounded (refused (steps d) n) s h at-limit k
+
   step-bounded : (n s : ℕ) {go : ℕ → Outcome} → s ≤ L .limit → ((s : ℕ) → s ≤ L .limit → Bounded (go s)) → Bounded (step L n s go)
-  step-bounded n s h k = visit-bounded Bounded (refused steps n) s h at-limit k
+  step-bounded n s h k = due-bounded other n s h k
 
   -- ---- the fit test
 
@@ -125,7 +128,7 @@ module _ (L : Limits) where
       step-bounded n s h (λ s h. then-bounded (lay-bounded a i m (record { what = b; ind = i } ∷ ws) p s r h) (λ p s r h. lay-bounded b i m ws p s r h))
   lay-bounded (group n a) i flat ws p s r h = step-bounded n s h (λ s h. lay-bounded a i flat ws p s r h)
   lay-bounded (group n a) i broken ws p s r h =
-      step-bounded n s h (λ s h. chosen-bounded (fit-bounded a flat (rest L ws) (rest-bounded ws) (p .column) s h) (λ m s h. lay-bounded a i m ws p s r h))
+      due-bounded _ n s h (λ s h. chosen-bounded (fit-bounded a flat (rest L ws) (rest-bounded ws) (p .column) s h) (λ m s h. lay-bounded a i m ws p s r h))
   lay-bounded (flatAlt n a b) i flat ws p s r h = step-bounded n s h (λ s h. lay-bounded b i flat ws p s r h)
   lay-bounded (flatAlt n a b) i broken ws p s r h = step-bounded n s h (λ s h. lay-bounded a i broken ws p s r h)
   lay-bounded (nest n a k way) i m ws p s r h = step-bounded n s h (λ s h. lay-bounded a (nested way k i) m ws p s r h)

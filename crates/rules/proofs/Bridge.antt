@@ -6,9 +6,9 @@ use mathlib.Core.List.{List, [], _∷_}
 use lib.Dec.{leb, ltb, eqb}
 use lib.ListN.{length}
 use Rattle.table.specs.Unfold.{Tree, nil, append, group, flatAlt, nest, hardline, text, annotated, union, align, fail}
-use Rattle.rules.specs.Layout.{Limits, Page, Mode, flat, broken, Entry, Refusal, bytes, events, Outcome, done, failed, refused, Fit, says, spent, next, also, andThen, try, chosen, visit, look, fit, rest, step, put, event, lay, taken, marked}
+use Rattle.rules.specs.Layout.{Limits, Page, Mode, flat, broken, modeIf, Entry, Refusal, bytes, events, Outcome, done, failed, refused, Fit, says, spent, next, also, andThen, try, chosen, visit, look, fit, rest, step, put, event, lay, taken, marked}
 use Rattle.table.specs.Document.{doc}
-use Rattle.rules.proofs.Meaning.{Result, laid, fail-met, alsoR, thenR, tryR, modeOf, mean}
+use Rattle.rules.proofs.Meaning.{Result, laid, fail-met, alsoR, thenR, tryR, mean}
 
 -- a fit test that was not stopped says what is meant
 data FitMeets : Fit → Bool → Type 0 where
@@ -37,7 +37,7 @@ try-meets (is-done {o = false}) h = is-done
 try-meets (is-failed {s}) h = h s
 try-meets is-refused h = is-refused
 
-chosen-meets : {x : Fit} {b : Bool} {f : Mode → ℕ → Outcome} {g : Mode → Result} → FitMeets x b → ((m : Mode) (s : ℕ) → Meets (f m s) (g m)) → Meets (chosen x f) (g (modeOf b))
+chosen-meets : {x : Fit} {b : Bool} {f : Mode → ℕ → Outcome} {g : Mode → Result} → FitMeets x b → ((m : Mode) (s : ℕ) → Meets (f m s) (g m)) → Meets (chosen x f) (g (modeIf b))
 chosen-meets (said {b = true} {s = s}) h = h flat s
 chosen-meets (said {b = false} {s = s}) h = h broken s
 chosen-meets stopped h = is-refused
@@ -111,7 +111,7 @@ module _ (L : Limits) where
       step-is n s (λ s. then-meets (lay-meets a i m (record { what = b; ind = i } ∷ ws) p s) (λ p s. lay-meets b i m ws p s))
   lay-meets (group n a) i flat ws p s = step-is n s (λ s. lay-meets a i flat ws p s)
   lay-meets (group n a) i broken ws p s =
-      step-is n s (λ s. chosen-meets {g = λ m. mean (doc a) .lays (L .width) i m (after ws) (next ws) p} (fit-meets a flat (rest L ws) (after ws) (rest-meets ws) (p .column) s) (λ m s. lay-meets a i m ws p s))
+      visit-is Meets s is-refused (λ s. chosen-meets {g = λ m. mean (doc a) .lays (L .width) i m (after ws) (next ws) p} (fit-meets a flat (rest L ws) (after ws) (rest-meets ws) (p .column) s) (λ m s. lay-meets a i m ws p s))
   lay-meets (flatAlt n a b) i flat ws p s = step-is n s (λ s. lay-meets b i flat ws p s)
   lay-meets (flatAlt n a b) i broken ws p s = step-is n s (λ s. lay-meets a i broken ws p s)
   lay-meets (nest n a k way) i m ws p s = step-is n s (λ s. lay-meets a _ m ws p s)

@@ -13,7 +13,7 @@ use Rattle.rules.proofs.Laws.{differ}
 use Rattle.rules.proofs.Bridge.{Meets, is-done, is-failed, is-refused, after, lay-meets}
 
 refuses : {A : Type 0} (w : Refusal) (n s : ℕ) → Unrefused (report (refused w n s)) → A
-refuses steps n s u = absurd (u .for-steps refl)
+refuses (steps d) n s u = absurd (u .for-steps refl)
 refuses bytes n s u = absurd (u .for-bytes refl)
 refuses events n s u = absurd (u .for-events refl)
 

@@ -5,11 +5,11 @@ use native.Mathlib.Omega.{arith}
 use mathlib.Core.Path.{_≡_, refl, sym, ap}
 use mathlib.Core.Bool.{Bool, true, false, _||_}
 use Rattle.table.specs.Node.{Way, adds, subtracts}
-use Rattle.rules.specs.Layout.{Page, Mode, flat, broken, nested}
+use Rattle.rules.specs.Layout.{Page, Mode, flat, broken, modeIf, nested}
 use Rattle.rules.specs.Law as D
 use Rattle.table.specs.Document.{Doc}
 use Rattle.rules.specs.Law.{Law, Within, Differ}
-use Rattle.rules.proofs.Meaning.{Result, laid, fail-met, Meaning, alsoR, thenR, tryR, modeOf, byMode, mean, nil′, append′, group′, flatAlt′, nest′, annotated′, union′, align′}
+use Rattle.rules.proofs.Meaning.{Result, laid, fail-met, Meaning, alsoR, thenR, tryR, byMode, mean, nil′, append′, group′, flatAlt′, nest′, annotated′, union′, align′}
 
 then-assoc : (r : Result) (f g : Page → Result) → thenR (thenR r f) g ≡ thenR r (λ p. thenR (f p) g)
 then-assoc fail-met f g = refl
@@ -41,7 +41,7 @@ also-false fail-met = refl
 nil-drops : (x : Meaning) → append′ nil′ x ≡ x
 nil-drops x = same _ _ (λ w i m k nx p. also-false (x .lays w i m k nx p)) (λ w m k c. refl)
 
-mode-twice : (m : Mode) (b : Bool) → byMode (byMode m flat (modeOf b)) flat (modeOf b) ≡ byMode m flat (modeOf b)
+mode-twice : (m : Mode) (b : Bool) → byMode (byMode m flat (modeIf b)) flat (modeIf b) ≡ byMode m flat (modeIf b)
 mode-twice flat b = refl
 mode-twice broken true = refl
 mode-twice broken false = refl

@@ -17,6 +17,11 @@ mod NotLaws
 pub mod Bounds
 pub mod Answers
 pub mod Cleared
+-- why a group broke: what the fit test says, and that the reason is the first node met that breaks or ends it
+pub mod Reasons
+pub mod FirstMet
+-- computed: the request's cases
+mod WhyCases
 -- every line feed in the output is a Hardline's
 pub mod Feeds
 -- like trees run alike

@@ -9,7 +9,7 @@ use lib.Dec.{eqb, leb, ltb}
 use lib.ListN.{length}
 use Rattle.table.specs.Node.{Way}
 use Rattle.table.specs.Unfold.{Tree, nil, append, group, flatAlt, nest, hardline, text, annotated, union, align, fail}
-use Rattle.rules.specs.Layout.{Limits, Page, Mode, flat, broken, Entry, Refusal, bytes, events, Outcome, done, failed, refused, Fit, says, spent, next, also, andThen, try, chosen, visit, look, fit, rest, step, put, event, lay, taken, fed, wrote, marked}
+use Rattle.rules.specs.Layout.{Limits, Page, Mode, flat, broken, Entry, brokenGroup, other, Refusal, steps, bytes, events, Outcome, done, failed, refused, Fit, says, spent, next, also, andThen, try, chosen, visit, look, fit, rest, step, put, event, lay, taken, fed, wrote, marked}
 
 module _ (N B : ℕ → ℕ → Type 0) (P : Page → Page → Type 0) where
   -- ---- what is like
@@ -32,11 +32,17 @@ module _ (N B : ℕ → ℕ → Type 0) (P : Page → Page → Type 0) where
     none-wait : WaitLike [] []
     one-waits : {t t′ : Tree} {i : ℕ} {ws ws′ : List Entry} → TreeLike t t′ → WaitLike ws ws′ → WaitLike (record { what = t; ind = i } ∷ ws) (record { what = t′; ind = i } ∷ ws′)
 
+  -- refusals, with like Groups due
+  pub data RefusalLike : Refusal → Refusal → Type 0 where
+    group-due : {a a′ : Tree} {ws ws′ : List Entry} {c : ℕ} → TreeLike a a′ → WaitLike ws ws′ → RefusalLike (steps (brokenGroup a ws c)) (steps (brokenGroup a′ ws′ c))
+    other-due : RefusalLike (steps other) (steps other)
+    event-full : RefusalLike events events
+
   -- outcomes, with the same steps; the place of 8 is 0 in both
   pub data Like : Outcome → Outcome → Type 0 where
     both-done : {p q : Page} {o : Bool} {s : ℕ} → P p q → Like (done p o s) (done q o s)
     both-failed : {s : ℕ} → Like (failed s) (failed s)
-    both-refused : {r : Refusal} {n n′ s : ℕ} → N n n′ → Like (refused r n s) (refused r n′ s)
+    both-refused : {r r′ : Refusal} {n n′ s : ℕ} → RefusalLike r r′ → N n n′ → Like (refused r n s) (refused r′ n′ s)
     both-full : {s : ℕ} → Like (refused bytes 0 s) (refused bytes 0 s)
 
   data FitLike : Fit → Fit → Type 0 where
@@ -57,26 +63,26 @@ module _ (N B : ℕ → ℕ → Type 0) (P : Page → Page → Type 0) where
   like-also : (o : Bool) {x y : Outcome} → Like x y → Like (also o x) (also o y)
   like-also o (both-done h) = both-done h
   like-also o both-failed = both-failed
-  like-also o (both-refused h) = both-refused h
+  like-also o (both-refused d h) = both-refused d h
   like-also o both-full = both-full
 
   like-then : {x y : Outcome} {f g : Page → ℕ → Outcome} → Like x y → ((p q : Page) (s : ℕ) → P p q → Like (f p s) (g q s)) → Like (andThen x f) (andThen y g)
   like-then (both-done {p = p} {q = q} {o = o} {s = s} h) k = like-also o (k p q s h)
   like-then both-failed k = both-failed
-  like-then (both-refused h) k = both-refused h
+  like-then (both-refused d h) k = both-refused d h
   like-then both-full k = both-full
 
   like-try : {x y : Outcome} {f g : ℕ → Outcome} → Like x y → ((s : ℕ) → Like (f s) (g s)) → Like (try x f) (try y g)
   like-try (both-done {o = true} {s = s} h) k = k s
   like-try (both-done {o = false} h) k = both-done h
   like-try (both-failed {s}) k = k s
-  like-try (both-refused h) k = both-refused h
+  like-try (both-refused d h) k = both-refused d h
   like-try both-full k = both-full
 
   like-chosen : {x y : Fit} {f g : Mode → ℕ → Outcome} → FitLike x y → ((m : Mode) (s : ℕ) → Like (f m s) (g m s)) → Like (chosen x f) (chosen y g)
   like-chosen (both-say {b = true} {s = s}) k = k flat s
   like-chosen (both-say {b = false} {s = s}) k = k broken s
-  like-chosen (both-spent h) k = both-refused h
+  like-chosen (both-spent h) k = both-refused other-due h
 
   next-like : {ws ws′ : List Entry} → WaitLike ws ws′ → (i : ℕ) → next ws i ≡ next ws′ i
   next-like none-wait i = refl
@@ -95,7 +101,7 @@ module _ (N B : ℕ → ℕ → Type 0) (P : Page → Page → Type 0) where
     look-like s h k = visit-like FitLike s (both-spent h) k
 
     step-like : {n n′ : ℕ} (s : ℕ) {go go′ : ℕ → Outcome} → N n n′ → ((s : ℕ) → Like (go s) (go′ s)) → Like (step L n s go) (step L n′ s go′)
-    step-like s h k = visit-like Like s (both-refused h) k
+    step-like s h k = visit-like Like s (both-refused other-due h) k
 
     -- ---- the fit test
 
@@ -141,7 +147,7 @@ module _ (N B : ℕ → ℕ → Type 0) (P : Page → Page → Type 0) where
         where
           by : (b : Bool) → Like (elim b [ true ↦ done (marked m l p) false s | false ↦ refused events n s ]) (elim b [ true ↦ done (marked m l′ q) false s | false ↦ refused events n′ s ])
           by true = both-done (K .keeps-marked m l l′ p q b h)
-          by false = both-refused g
+          by false = both-refused event-full g
 
       put-kept : {p q : Page} (o o′ : Bool) (s : ℕ) → P p q → o ≡ o′ → Like (put L p o s) (put L q o′ s)
       put-kept {p} {q} o o′ s h e = subst (λ b. Like (put L p o s) (put L q b s)) e (put-like p q o s h (K .same-taken p q h))
@@ -152,7 +158,8 @@ module _ (N B : ℕ → ℕ → Type 0) (P : Page → Page → Type 0) where
       lay-like (append-like h a b) i m w p q s e = step-like s h (λ s. like-then (lay-like a i m (one-waits b w) p q s e) (λ p q s e. lay-like b i m w p q s e))
       lay-like (group-like h a) i flat w p q s e = step-like s h (λ s. lay-like a i flat w p q s e)
       lay-like (group-like {a = t} {a′ = t′} h a) i broken {ws} {ws′} w p q s e =
-          step-like s h
+          visit-like Like s
+          (both-refused (subst (λ c. RefusalLike (steps (brokenGroup t ws (p .column))) (steps (brokenGroup t′ ws′ c))) (K .same-column p q e) (group-due a w)) h)
           (λ s. like-chosen (subst (λ c. FitLike (fit L t flat (rest L ws) (p .column) s) (fit L t′ flat (rest L ws′) c s)) (K .same-column p q e) (fit-like a flat _ _ (rest-like w) (p .column) s)) (λ m s. lay-like a i m w p q s e))
       lay-like (flatAlt-like h a b) i flat w p q s e = step-like s h (λ s. lay-like b i flat w p q s e)
       lay-like (flatAlt-like h a b) i broken w p q s e = step-like s h (λ s. lay-like a i broken w p q s e)

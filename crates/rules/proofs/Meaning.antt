@@ -5,7 +5,7 @@ use mathlib.Core.Bool.{Bool, true, false, _||_, _&&_}
 use mathlib.Core.List.{List}
 use lib.Dec.{leb, ltb}
 use Rattle.table.specs.Node.{Way}
-use Rattle.rules.specs.Layout.{Page, Mode, flat, broken, nested, fed, wrote, marked}
+use Rattle.rules.specs.Layout.{Page, Mode, flat, broken, modeIf, nested, fed, wrote, marked}
 use Rattle.table.specs.Document.{Doc, nil, append, group, flatAlt, nest, hardline, text, annotated, union, align, fail}
 
 -- the page and whether a Text laid ended past width; or a Fail was met
@@ -33,10 +33,6 @@ tryR (laid p true) r = r
 tryR (laid p false) r = laid p false
 tryR fail-met r = r
 
-abbrev pub modeOf : Bool → Mode
-modeOf true = flat
-modeOf false = broken
-
 abbrev pub byMode {ℓ} : {A : Type ℓ} → Mode → A → A → A
 byMode flat a b = a
 byMode broken a b = b
@@ -54,7 +50,7 @@ append′ x y =
 abbrev pub group′ : Meaning → Meaning
 group′ x =
     record {
-      lays = λ w i m k nx p. x .lays w i (byMode m flat (modeOf (x .reads w flat k (p .column)))) k nx p;
+      lays = λ w i m k nx p. x .lays w i (byMode m flat (modeIf (x .reads w flat k (p .column)))) k nx p;
       reads = x .reads;
     }
 

@@ -34,17 +34,29 @@ blank = record { column = 0; out = []; events = [] }
 pub data Mode : Type 0 where
   flat broken : Mode
 
+-- flat, or broken
+abbrev pub modeIf : Bool → Mode
+modeIf true = flat
+modeIf false = broken
+
 -- a waiting node with its indentation
 pub record Entry : Type 0 where
   pub what : Tree
   pub ind : ℕ
 
+-- What is due when the steps equal the limit: a Group met broken in layout, with its child, what waits and the column; or any other node, one in a
+-- fit test too. The report names only its number; request 2026-01 asks for the rest.
+pub data Due : Type 0 where
+  brokenGroup : Tree → List Entry → ℕ → Due
+  other : Due
+
 -- what refuses a run: the steps equal the limit, bytes don't fit the output, an event doesn't fit
 pub data Refusal : Type 0 where
-  steps bytes events : Refusal
+  steps : Due → Refusal
+  bytes events : Refusal
 
 abbrev pub number : Refusal → ℕ
-number steps = 7
+number (steps d) = 7
 number bytes = 8
 number events = 9
 
@@ -119,7 +131,7 @@ try (refused r n s) second = refused r n s
 abbrev pub chosen : Fit → (Mode → ℕ → Outcome) → Outcome
 chosen (says true s) go = go flat s
 chosen (says false s) go = go broken s
-chosen (spent n s) go = refused steps n s
+chosen (spent n s) go = refused (steps other) n s
 
 module _ (L : Limits) where
   -- Each node visited, in layout or in a fit test, is one step. A node that is due when the steps equal the limit isn't visited.
@@ -158,7 +170,7 @@ module _ (L : Limits) where
 
   -- layout's visit of the node n
   abbrev pub step : ℕ → ℕ → (ℕ → Outcome) → Outcome
-  step n s go = visit (refused steps n s) s go
+  step n s go = visit (refused (steps other) n s) s go
 
   -- what a Text or a Hardline makes of the page fits whole or answers 8
   unfoldable pub put : Page → Bool → ℕ → Outcome
@@ -184,7 +196,7 @@ module _ (L : Limits) where
       step n s (λ s. andThen (lay a i m (record { what = b; ind = i } ∷ ws) p s) (λ p s. lay b i m ws p s))
   lay (group n a) i flat ws p s = step n s (λ s. lay a i flat ws p s)
   lay (group n a) i broken ws p s =
-      step n s (λ s. chosen (fit a flat (rest ws) (p .column) s) (λ m s. lay a i m ws p s))
+      visit (refused (steps (brokenGroup a ws (p .column))) n s) s (λ s. chosen (fit a flat (rest ws) (p .column) s) (λ m s. lay a i m ws p s))
   lay (flatAlt n a b) i flat ws p s = step n s (λ s. lay b i flat ws p s)
   lay (flatAlt n a b) i broken ws p s = step n s (λ s. lay a i broken ws p s)
   lay (nest n a k way) i m ws p s = step n s (λ s. lay a (nested way k i) m ws p s)

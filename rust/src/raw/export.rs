@@ -63,6 +63,23 @@ unsafe extern "C" {
         report: *mut u32,
         report_len: usize,
     ) -> u32;
+    pub fn pursegable_why(
+        table: *const u32,
+        table_len: usize,
+        text: *const u8,
+        text_len: usize,
+        width: u32,
+        limit: u32,
+        step: u32,
+        out: *mut u8,
+        out_len: usize,
+        events: *mut u32,
+        events_len: usize,
+        work: *mut u32,
+        work_len: usize,
+        report: *mut u32,
+        report_len: usize,
+    ) -> u32;
     pub fn pursegable_make(
         what: u32,
         a: u32,

@@ -1,0 +1,2 @@
+-- Laws of the walk over what waits.
+mod Walk

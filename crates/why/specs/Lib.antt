@@ -1,0 +1,2 @@
+-- What the call and its functions promise.
+pub mod Promise
