@@ -23,7 +23,7 @@ use Rattle.table.specs.Unfold.{Tree, treeOf, root}
 use Rattle.table.proofs.Accept.{valid-if-zero}
 use Rattle.table.proofs.Sound.{all-sound-of-valid}
 use Rattle.table.proofs.Unfolded.{tree-node}
-use Rattle.rules.specs.Layout.{Limits, Page, blank, Mode, flat, broken, Entry, Refusal, steps, bytes, events, Outcome, done, failed, refused, Fit, says, spent, nested, also, andThen, try, chosen, visit, fit, rest, step, put, event, lay, taken, wrote, fed, next, marked, Report, report, layout}
+use Rattle.rules.specs.Layout.{Limits, Page, blank, Mode, flat, broken, Entry, Due, brokenGroup, other, Refusal, steps, bytes, events, Outcome, done, failed, refused, Fit, says, spent, nested, also, andThen, try, chosen, visit, fit, rest, step, put, event, lay, taken, wrote, fed, next, marked, Report, report, layout}
 use Rattle.rules.specs.Call.{Given, buffersRight, limits, refusal, unlessFault, call}
 use Rattle.rules.specs.Pieces.{Piece, textPiece, hardlinePiece, bytesOf, allBytes, Stand, nil, append, group, when-broken, when-flat, nest, hardline, text, annotated, first-arm, second-arm, align, feeds, hardlines, Unfed, Fed}
 
@@ -89,13 +89,16 @@ chosen-grown (says false s) k = k broken s
 chosen-grown (spent n s) k = at-a-refusal
 
 module _ (L : Limits) where
-  step-grown : {Q : List Piece → Type 0} {p : Page} (n s : ℕ) {go : ℕ → Outcome} → ((s : ℕ) → Grown Q p (go s)) → Grown Q p (step L n s go)
+  visit-grown : {Q : List Piece → Type 0} {p : Page} (d : Due) (n s : ℕ) {go : ℕ → Outcome} → ((s : ℕ) → Grown Q p (go s)) → Grown Q p (visit L (refused (steps d) n s) s go)
   unfolding visit
-  step-grown {Q} {p} n s {go} k = by (eqb s (L .limit))
+  visit-grown {Q} {p} d n s {go} k = by (eqb s (L .limit))
     where
-      by : (b : Bool) → Grown Q p (elim b [ true ↦ refused steps n s | false ↦ go (s + 1) ])
+      by : (b : Bool) → Grown Q p (elim b [ true ↦ refused (steps d) n s | false ↦ go (s + 1) ])
       by true = at-a-refusal
       by false = k (s + 1)
+
+  step-grown : {Q : List Piece → Type 0} {p : Page} (n s : ℕ) {go : ℕ → Outcome} → ((s : ℕ) → Grown Q p (go s)) → Grown Q p (step L n s go)
+  step-grown n s k = visit-grown other n s k
 
   put-grown : {Q : List Piece → Type 0} {p : Page} (p′ : Page) (past : Bool) (s : ℕ) (ps : List Piece) → Q ps → p′ .out ≡ p .out ++ allBytes ps → Grown Q p (put L p′ past s)
   unfolding put
@@ -121,7 +124,7 @@ module _ (L : Limits) where
       step-grown n s (λ s. then-grown (λ ps qs. append) (lay-pieces a i m _ p s) (λ p s. lay-pieces b i m ws p s))
   lay-pieces (tree.group n a) i flat ws p s = step-grown n s (λ s. becomes (λ ps. group) (lay-pieces a i flat ws p s))
   lay-pieces (tree.group n a) i broken ws p s =
-      step-grown n s (λ s. becomes (λ ps. group) (chosen-grown (fit L a flat (rest L ws) (p .column) s) (λ m s. lay-pieces a i m ws p s)))
+      visit-grown (brokenGroup a ws (p .column)) n s (λ s. becomes (λ ps. group) (chosen-grown (fit L a flat (rest L ws) (p .column) s) (λ m s. lay-pieces a i m ws p s)))
   lay-pieces (tree.flatAlt n a b) i flat ws p s = step-grown n s (λ s. becomes (λ ps. when-flat) (lay-pieces b i flat ws p s))
   lay-pieces (tree.flatAlt n a b) i broken ws p s = step-grown n s (λ s. becomes (λ ps. when-broken) (lay-pieces a i broken ws p s))
   lay-pieces (tree.nest n a k way) i m ws p s = step-grown n s (λ s. becomes (λ ps. nest) (lay-pieces a (nested way k i) m ws p s))
@@ -240,7 +243,7 @@ reported-fed q (grown ps s e) z =
     let u = quiet-pieces s q in
     record { pieces = ps; stand = s; output = e; texts = u; counted = ap feeds e ∙ counted-feeds ps u }
 reported-fed q at-a-fail z = absurd (omega arith)
-reported-fed q (at-a-refusal {r = steps}) z = absurd (omega arith)
+reported-fed q (at-a-refusal {r = steps d}) z = absurd (omega arith)
 reported-fed q (at-a-refusal {r = bytes}) z = absurd (omega arith)
 reported-fed q (at-a-refusal {r = events}) z = absurd (omega arith)
 

@@ -8,7 +8,7 @@ use Rattle.table.specs.Node.{Node, nil, append, group, flatAlt, hardline, text,
 use Rattle.table.specs.Kinds.{kinds, kindAt}
 use Rattle.table.specs.Fault.{columnsRight, faultOf, faultAt, firstFault, check}
 use Rattle.table.specs.Unfold.{treeOver, trees, tree}
-use Rattle.buffer.specs.Utf8.{owed, wellFormed, ascii}
+use Rattle.buffer.specs.Utf8.{owed, wellFormed, every as every-octet, ascii, noFeed}
 use Rattle.rules.specs.Layout.{visit, fit, rest, put, event, lay}
 use Rattle.rules.specs.Call.{Given}
 use Rattle.rules.specs.Why.{WhyReport, firstIn, firstAfter, reason, whyRun, why}
@@ -104,7 +104,7 @@ same r s =
     eqb (r .answer) (s .answer) && eqb (r .broken) (s .broken) && eqb (r .reason) (s .reason) && eqb (r .node) (s .node) && eqb (r .column) (s .column)
 
 unfoldable computed : Given → ℕ → WhyReport
-unfolding why whyRun reason firstIn firstAfter check firstFault faultAt faultOf columnsRight wellFormed owed ascii kindAt kinds tree trees treeOver nodeAt lay visit put event fit rest
+unfolding why whyRun reason firstIn firstAfter check firstFault faultAt faultOf columnsRight wellFormed owed ascii noFeed every-octet kindAt kinds tree trees treeOver nodeAt lay visit put event fit rest
 computed g step = why g step
 
 unfoldable every : List Asked → Bool
