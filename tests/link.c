@@ -166,6 +166,33 @@ static void call(char **part, enum form form)
     free(table_was), free(text_was), free(out), free(events), free(work), free(report);
 }
 
+/* ---- why */
+
+static void ask(char **part)
+{
+    uint32_t *table, *at, *sizes, *answer, *want_report, *zero;
+    uint8_t *text;
+    size_t table_len = words(part[3], &table), text_len = bytes(part[4], &text);
+    words(part[1], &at);
+    words(part[2], &sizes);
+    words(part[5], &answer);
+    size_t room = sizes[0], words_len = sizes[1] * PURSEGABLE_EVENT_WORDS, work_len = sizes[2], report_len = sizes[3];
+    uint8_t *out = lend(room, 1);
+    uint32_t *events = lend(words_len, 4), *work = lend(work_len, 4), *report = lend(report_len, 4);
+    uint32_t r = pursegable_why(table, table_len, text, text_len, at[0], at[1], at[2], out, room, events, words_len, work, work_len, report, report_len);
+    calls++;
+    equal("the answer", r, answer[PURSEGABLE_WHY_ANSWER]);
+    zero = calloc(room + words_len + work_len + 1, 4);
+    same("the output", out, zero, room, 1);
+    same("the events", events, zero, words_len, 4);
+    same("the work area", work, zero, work_len, 4);
+    want_report = calloc(report_len + PURSEGABLE_REPORT_WORDS, 4);
+    if (report_len >= PURSEGABLE_REPORT_WORDS)
+        memcpy(want_report, answer, PURSEGABLE_REPORT_WORDS * 4);
+    same("the report", report, want_report, report_len, 4);
+    free(table), free(at), free(sizes), free(answer), free(want_report), free(zero), free(text), free(out), free(events), free(work), free(report);
+}
+
 /* ---- constructors */
 
 static uint32_t *table, *counts;
@@ -296,6 +323,8 @@ int main(int argc, char **argv)
                 call(part, SHEET);
             if (width == PURSEGABLE_LABEL_WIDTH && limit == PURSEGABLE_DEFAULT_STEPS)
                 call(part, LABEL);
+        } else if (!strncmp(line, "why", 3) && n == 6) {
+            ask(part);
         } else if (!strncmp(line, "counts", 6) && n == 2) {
             lend_sheet(part);
         } else if (!strncmp(line, "holds", 5) && n == 3) {

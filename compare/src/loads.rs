@@ -92,7 +92,9 @@ fn pieces(text: &str) -> Vec<String> {
     let mut pieces: Vec<String> = Vec::new();
     for word in text.split(' ') {
         match pieces.last_mut() {
-            Some(last) if last.chars().count() < 12 && last.chars().count() + 1 + word.chars().count() <= 38 => *last = format!("{last} {word}"),
+            Some(last) if last.chars().count() < 12 && last.chars().count() + 1 + word.chars().count() <= 38 => {
+                *last = format!("{last} {word}")
+            }
             _ => pieces.push(word.to_string()),
         }
     }

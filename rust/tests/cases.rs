@@ -2,7 +2,7 @@
 //! element of every buffer is looked at afterwards.
 
 use pursegable::sizes::{DEFAULT_STEPS, EVENT_WORDS, LABEL_WIDTH, REPORT_WORDS, SHEET_WIDTH, WORK_WORDS};
-use pursegable::{Draft, Event, Laid, Node, Refusal, Refused, Strip, label, layout, raw, sheet};
+use pursegable::{Draft, Event, Laid, Node, Refusal, Refused, Strip, label, layout, raw, sheet, why};
 
 const CASES: &str = include_str!("../../tests/cases.txt");
 const BYTE: u8 = 0xa5;
@@ -205,6 +205,37 @@ fn calls() {
     println!("cases.rs: {count} calls as they should be");
 }
 
+// ---- why
+
+/// A line that starts with `why`: through the export, every buffer looked at, and through the enum.
+fn asked(line: &str) {
+    let part: Vec<&str> = line.split('|').collect();
+    let (at, sizes, table, text) = (words(part[1]), words(part[2]), words(part[3]), bytes(part[4]));
+    let want: [u32; REPORT_WORDS] = words(part[5]).try_into().unwrap();
+    let size = |i: usize| sizes[i] as usize;
+    let (mut out, mut events) = (vec![BYTE; size(0)], vec![WORD; EVENT_WORDS * size(1)]);
+    let (mut work, mut report) = (vec![WORD; size(2)], vec![WORD; size(3)]);
+    let answer = raw::why(&table, &text, at[0], at[1], at[2], &mut out, &mut events, &mut work, &mut report);
+    assert_eq!(answer, want[0], "{line}");
+    let told = if report.len() < REPORT_WORDS { &[][..] } else { &want[..] };
+    assert_eq!(report, padded(told, report.len(), 0), "{line}");
+    assert!(out.iter().all(|&byte| byte == 0) && events.iter().chain(&work).all(|&word| word == 0), "{line}");
+    if report.len() < REPORT_WORDS {
+        return;
+    }
+    match why(&table, &text, at[0], at[1], at[2], &mut out, &mut events, &mut work) {
+        Ok(reason) => assert_eq!((0, reason.is_flat()), (want[0], want[1] == 0), "{line}"),
+        Err(refusal) => assert_eq!(refusal.number(), want[0], "{line}"),
+    }
+}
+
+#[test]
+fn whys() {
+    let lines: Vec<&str> = CASES.lines().filter(|line| line.starts_with("why")).collect();
+    lines.iter().for_each(|line| asked(line));
+    assert!(lines.len() > 10, "only {} of why", lines.len());
+}
+
 // ---- constructors
 
 /// What a script builds in: the exports over any counts, or a draft.
@@ -390,7 +421,7 @@ fn run(head: &str, script: &[&str]) -> usize {
 
 #[test]
 fn constructors() {
-    let lines: Vec<&str> = CASES.lines().filter(|l| !l.starts_with('#') && !l.starts_with("call")).collect();
+    let lines: Vec<&str> = CASES.lines().filter(|l| !["#", "call", "why"].iter().any(|head| l.starts_with(head))).collect();
     let heads = lines.iter().filter(|line| line.starts_with("counts"));
     let scripts = lines.split(|line| line.starts_with("counts")).skip(1);
     let count: usize = heads.zip(scripts).map(|(head, script)| run(head, script)).sum();

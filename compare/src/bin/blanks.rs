@@ -49,7 +49,16 @@ fn main() {
         let call = Call::roomy(table, 2000);
         let run = call.run();
         assert_eq!(run.report.answer, 0, "{name}");
-        assert_eq!(compare::archive::differs(compare::archive::Export::Words, &call, &mut compare::archive::Lent::default(), &run.report), None, "{name}");
+        assert_eq!(
+            compare::archive::differs(
+                compare::archive::Export::Words,
+                &call,
+                &mut compare::archive::Lent::default(),
+                &run.report
+            ),
+            None,
+            "{name}"
+        );
         let whole = time(&call, call.limit, rounds);
         let before = time(&call, 0, rounds);
         println!("| {name} | {:.1} | {whole:.0} |", (whole - before) / count);

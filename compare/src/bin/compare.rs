@@ -226,7 +226,9 @@ impl Tally {
         }
         if cfg!(archive) {
             println!("with our archive: compared {}", self.archive_calls);
-            let counted = |counts: &BTreeMap<u32, u64>| counts.iter().map(|(n, times)| format!("{n}: {times}")).collect::<Vec<_>>().join(", ");
+            let counted = |counts: &BTreeMap<u32, u64>| {
+                counts.iter().map(|(n, times)| format!("{n}: {times}")).collect::<Vec<_>>().join(", ")
+            };
             println!("why: answers {}; reasons {}", counted(&self.whys), counted(&self.reasons));
         }
         println!("DIFFERENT where they must not: {}", self.wrong);

@@ -9,7 +9,7 @@ use Prim.Native.Nat.{ℕ}
 use lib.Dec.{leb}
 use Rattle.choice.specs.Pick.{pick}
 use Rattle.rules.specs.Call.{Given}
-use Rattle.rules.specs.Why.{WhyReport, whyRefused, why}
+use Rattle.rules.specs.Why.{whyRefused, why}
 use Rattle.why.specs.Promise.{whyOf, WhyCalled}
 use Rattle.why.specs.declared.Answer.{Answer}
 use Rattle.pursegable.specs.Exported.{reportWords, told, noLimit, limitFor}

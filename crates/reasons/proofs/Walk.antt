@@ -6,7 +6,7 @@
 --     child-found, child-through           the group's child
 -- Assumes nothing.
 use mathlib.Core.Path.{_≡_, refl, sym, ap, subst, _∙_}
-use Prim.Native.Nat.{ℕ, suc, _+_, _-_, _*_, _≤_, _<_}
+use Prim.Native.Nat.{ℕ, _+_, _-_, _≤_, _<_}
 use native.Mathlib.Omega.{arith}
 use mathlib.Core.Bool.{Bool, true, false}
 use mathlib.Core.List.{List, [], _∷_, _++_, append-nil}
@@ -24,7 +24,7 @@ use Rattle.waiting.specs.Stack.{stackOf, Nearest, from}
 use Rattle.waiting.specs.Area.{numberAt}
 use Rattle.waiting.proofs.Laws.{node-top, from-nodes}
 use Rattle.summary.specs.Promise as summary
-use Rattle.summary.specs.Promise.{Leads, metOf, reasonOf}
+use Rattle.summary.specs.Promise.{Leads, metOf}
 use Rattle.summary.specs.declared.Met.{Met as Walked}
 use Rattle.summary.specs.declared.Met.the-variants.{Through, Found}
 use Rattle.summary.specs.declared.Reason.{Reason}

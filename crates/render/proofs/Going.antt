@@ -7,7 +7,6 @@ use mathlib.Core.Bool.{Bool, true, false}
 use mathlib.Core.List.{List, [], _∷_}
 use lib.ListN.{length}
 use lib.Dec.{ltb}
-use Rattle.rules.specs.Call.{eventWords}
 use Rattle.choice.specs.Pick.{pick}
 use Rattle.table.specs.Sound.{AllSound}
 use Rattle.table.specs.declared.NodeNo.{NodeNo}

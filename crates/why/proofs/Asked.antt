@@ -4,22 +4,21 @@
 --     asked-none, asked-past, asked-ended, asked-fit, asked-due   the answer of each
 -- Assumes nothing.
 use mathlib.Core.Path.{_≡_, refl, sym, ap, subst, _∙_}
-use Prim.Native.Nat.{ℕ, zero, suc, _-_, _*_, _/_, _≤_, _<_}
+use Prim.Native.Nat.{ℕ, zero, suc, _-_, _/_, _≤_, _<_}
 use native.Mathlib.Omega.{arith}
-use mathlib.Core.Bool.{Bool, true, false}
+use mathlib.Core.Bool.{true, false}
 use mathlib.Core.List.{List}
 use lib.ListN.{length}
-use lib.Dec.{eqb, ltb}
+use lib.Dec.{eqb}
 use borrow.Author.Tests.{eq-eqb, ne-eqb, lt-ltb, le-ltb}
 use Rattle.choice.specs.Pick.{pick}
 use Rattle.table.specs.Fault.{check}
 use Rattle.table.specs.Unfold.{Tree, tree, root}
-use Rattle.rules.specs.Layout.{Limits, other, Outcome, report}
+use Rattle.rules.specs.Layout.{Limits, Outcome, report}
 use Rattle.rules.specs.Layout as layout
 use Rattle.rules.specs.Call.{Given, buffersRight, limits}
-use Rattle.rules.specs.Why.{whyRefused, endedBefore, dueIn, atVisit, runTo, whyRun}
+use Rattle.rules.specs.Why.{whyRefused, endedBefore, atVisit, runTo, whyRun}
 use Rattle.rules.specs.Why as rules
-use Rattle.machine.specs.Turn.{Env}
 use Rattle.machine.proofs.Rules.{layout-is}
 use Rattle.machine.proofs.Due.{outcome, ended-is, visit-ended, stops-is}
 use Rattle.waiting.specs.declared.Due.{Due}
@@ -62,7 +61,7 @@ module _ (L : Limits) (t : Tree) where
   past-limit (suc k) less = rw (le-ltb k (L .limit) (omega arith))
 
   -- the visit is within it
-  at-limit : (k : ℕ) → k < L .limit → whyRun L t (suc k) ≡ atVisit (L .width) (runTo L k t)
+  pub at-limit : (k : ℕ) → k < L .limit → whyRun L t (suc k) ≡ atVisit (L .width) (runTo L k t)
   unfolding whyRun
   at-limit k less = rw (lt-ltb k (L .limit) less)
 

@@ -4,28 +4,26 @@
 --     due-told                            what was due at the limit, by the rules
 -- Assumes nothing.
 use mathlib.Core.Path.{_≡_, refl, sym, ap, _∙_}
-use Prim.Native.Nat.{ℕ, zero, suc, _+_, _-_, _*_, _/_, _≤_, _<_}
+use Prim.Native.Nat.{ℕ, _+_, _*_, _/_, _≤_, _<_}
 use native.Mathlib.Omega.{arith}
-use native.Mathlib.Nat.{add-zero}
 use mathlib.Core.Bool.{Bool, true, false}
-use mathlib.Core.List.{List, [], _∷_}
+use mathlib.Core.List.{List}
 use lib.ListN.{length, getD}
 use lib.Dec.{eqb}
 use borrow.Author.Tests.{ne-eqb, eqb-true, eqb-false}
 use Rattle.choice.specs.Pick.{pick}
-use Rattle.table.specs.Node.{Node, Way, nil, append, group, flatAlt, nest, hardline, text, annotated, union, align, fail, wayOf, nodeOf, nodeAt}
+use Rattle.table.specs.Node.{Node, nil, append, group, flatAlt, nest, hardline, text, annotated, union, align, fail, wayOf, nodeAt}
 use Rattle.table.specs.Unfold.{Tree, tree}
 use Rattle.table.proofs.Nodes.{node-is, sound-longer}
-use Rattle.rules.specs.Layout.{Mode, flat, broken, other}
+use Rattle.rules.specs.Layout.{Mode, flat, other}
 use Rattle.rules.specs.Layout as layout
-use Rattle.rules.specs.Why.{whyRefused, told, reason, atVisit}
+use Rattle.rules.specs.Why.{told, reason, atVisit}
 use Rattle.machine.specs.Turn.{Env}
 use Rattle.machine.specs.Waiting.{waiting}
-use Rattle.machine.specs.Well.{Nodes}
 use Rattle.machine.proofs.Rules.{dueAt}
 use Rattle.machine.proofs.Due.{outcome, group-due, other-due}
 use Rattle.waiting.specs.Area.{areaWords}
-use Rattle.waiting.specs.Stack.{modeOf, stackOf, Same}
+use Rattle.waiting.specs.Stack.{modeOf, stackOf}
 use Rattle.waiting.specs.declared.Due.{Due}
 use Rattle.waiting.proofs.Laws.{flat-mode, same-less, stack-same}
 use Rattle.reasons.specs.Promise as reasons

@@ -3,7 +3,6 @@
 use borrow.Author.Needs.{needs}
 use native.Mathlib.Omega.{arith}
 use Prim.Native.Nat.{_/_}
-use mathlib.Core.Path.{sym, _∙_}
 use lib.ListN.{length}
 use Rattle.reasons.proofs.Walk.{Walking, walk-start, walk-nothing, walk-found, walk-on, walk-asked, next-small, part-is}
 use Rattle.reasons.proofs.after.Statement.{statement}
