@@ -23,7 +23,8 @@ use Rattle.table.specs.Unfold.{Tree, treeOf, root}
 use Rattle.table.proofs.Accept.{valid-if-zero}
 use Rattle.table.proofs.Sound.{all-sound-of-valid}
 use Rattle.table.proofs.Unfolded.{tree-node}
-use Rattle.rules.specs.Layout.{Limits, Page, blank, Mode, flat, broken, Entry, Due, other, Refusal, steps, bytes, events, Outcome, done, failed, refused, Fit, says, spent, nested, also, andThen, try, chosen, visit, fit, rest, step, put, event, lay, taken, wrote, fed, next, marked, Report, report, layout}
+use Rattle.rules.specs.Layout.{Limits, Page, blank, Mode, flat, broken, Entry, Due, other, Refusal, steps, bytes, events, Outcome, done, failed, refused, Fit, says, spent}
+use Rattle.rules.specs.Layout.{nested, also, andThen, try, chosen, visit, fit, rest, step, put, event, lay, taken, wrote, fed, next, marked, Report, report, layout}
 use Rattle.rules.specs.Call.{Given, buffersRight, limits, refusal, unlessFault, call}
 use Rattle.rules.specs.Pieces.{Piece, textPiece, hardlinePiece, bytesOf, allBytes, Stand, nil, append, group, when-broken, when-flat, nest, hardline, text, annotated, first-arm, second-arm, align, feeds, hardlines, Unfed, Fed}
 
