@@ -27,13 +27,14 @@ ghost use Rattle.waiting.specs.Stack.{modeOf, flagOf, stackOf};
 ghost use Rattle.fitting.specs.Fitting.{Fitting};
 ghost use Rattle.lay.specs.Turning.{restoredOf, Kept, Wrote, Annotated, Restoring};
 
-// A layout on its way: the page, the steps left, whether a Text ended past width in the innermost trial (0 is no), and how many entries wait.
-// The state comes first in a turn: then a compiler keeps each of its numbers in a register of its own (docs/PERFORMANCE.md).
+// A layout on its way: the steps left, whether a Text ended past width in the innermost trial (0 is no), how many entries wait, and the page.
+// The state comes first in a turn and the page last in it: then a compiler keeps each of its numbers in a register of its own, a tenth of all
+// instructions (docs/PERFORMANCE.md).
 pub struct State {
-    pub page: Page,
     pub left: u32,
     pub past: u32,
     pub depth: usize,
+    pub page: Page,
 }
 
 // Where a turn leads: a node is due; the node is done; or the run stops, with the answer, the place and the steps left.
