@@ -1,6 +1,9 @@
 // Bytes written one behind the other into a lent buffer, and numbers as they are written. What has no room is left out whole, and the place
 // then says so: it stands past the buffer's end, and stays there.
 // No function has a `requires`; each says what the buffer holds afterwards.
+
+#![tactic(auto)]
+
 ghost use Rattle.std.specs.Prelude.{length, drop, ◌≡◌, []};
 ghost use Rattle.append.specs.Append.{Adds};
 ghost use Rattle.append.specs.Decimal.{digits_on, decimal, pointed};

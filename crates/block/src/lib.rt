@@ -1,6 +1,9 @@
 // The block layouts, over what the constructors promise. Each part is asked of them in document 01's order; parts.rt has an
 // alternative and its Core, affixes.rt Head and Tail. `format` has no `requires`, and says its whole outcome by one definition, so one
 // outcome is possible.
+
+#![tactic(auto)]
+
 ghost use Rattle.std.specs.Prelude.{◌≡◌, true, ◌+◌, ◌-◌, ◌<◌, ◌≤◌, length, take, drop};
 ghost use Rattle.buffer.specs.Run.{put};
 ghost use Rattle.build.specs.Outcome.{outcome, made};

@@ -1,5 +1,8 @@
 // Runs of stores into lent buffers: clear, fill, copy, a newline with its blanks, clear what is dirty. Each promise says the whole buffer afterwards.
 // No run writes an element twice, and none but its own; only `copy_over` may write behind its run.
+
+#![tactic(auto)]
+
 pub mod parts;
 pub mod utf8;
 

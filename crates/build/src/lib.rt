@@ -1,6 +1,9 @@
 // The constructors: each adds nodes to the lent table and bytes to the lent text, or refuses and leaves both as they were.
 // No public method has a `requires`. Each says its whole outcome by a definition of specs/Constructors.antt, so one outcome is possible.
 // Here: what is asked before anything is added, reading the counted nodes, and the parts that ask for a whole. node.rt: one node; composed.rt: several; lists.rt: lists of nodes.
+
+#![tactic(auto)]
+
 ghost use Rattle.std.specs.Prelude.{◌≡◌, true, ◌&&◌, ◌||◌, [], ◌∷◌, ◌++◌, ◌+◌, ◌-◌, ◌*◌, ◌≤◌, ◌<◌, length, take, eqb};
 ghost use Rattle.table.specs.Node.{word};
 ghost use Rattle.build.specs.Draft.{counts_of, counted, over, older, add};

@@ -1,5 +1,8 @@
 // A chest's sheet as a document, built by the constructors and the block layouts: headings and rows in order, then the footer, each ending in a
 // Hardline. A row is crate row's, the footer crate footer's, and the words of a heading crate words'. No function has a `requires`.
+
+#![tactic(auto)]
+
 ghost use Rattle.table.specs.Document as document;
 ghost use Rattle.table.specs.Document.{Doc};
 ghost use Rattle.build.specs.Documents.{append_doc};

@@ -3,6 +3,9 @@
 // The engine notes its events as words; the functions here, proved by walks of their code, are all that write records.
 // A record's size stands in one place, `rules::EVENT_WORDS` with `event_words` of rules' specs. A field more is that number, a field of `Event`, a
 // line of `none`, `clear` and `record_at`, and one of `none`, `event_at` and `record_of` in specs/.
+
+#![tactic(auto)]
+
 ghost use Rattle.std.specs.Prelude.{◌≡◌, length, set, replicate};
 ghost use Rattle.events.specs.Records.{none, record_at, published, most};
 ghost use Rattle.events.specs.Called.{asked, Called, called_with};

@@ -1,5 +1,8 @@
 // Why the groups of a sheet went onto several lines, in a voicer's words (document 02, request 2026-01): one sentence a group, written behind
 // one another into a lent buffer. In order: a reason; a sentence; one visit; every visit. No function has a `requires`; each says what it writes.
+
+#![tactic(auto)]
+
 ghost use Rattle.std.specs.Prelude.{◌≡◌, ℕ, get_or, eqb};
 ghost use Rattle.append.specs.Append.{Adds};
 ghost use Rattle.rules.specs.Why.{told};

@@ -3,6 +3,9 @@
 // Groups in a row are gone down first. Then an inner walk goes down a node and an outer walk over the waiting nodes; both are left by label at
 // the first yes or no.
 // Not an entry point of the library: `fitting` asks a valid table and a work area of its caller.
+
+#![tactic(auto)]
+
 ghost use Rattle.std.specs.Prelude.{◌+◌, ◌*◌, ◌≤◌, length};
 ghost use Rattle.table.specs.Node.{node_at};
 ghost use Rattle.table.specs.Sound.{Sound};

@@ -1,6 +1,9 @@
 // The footer: an empty line, then the notes out of tolerance, or that none is. A sheet without rows has none.
 //
 // The notes are a block: behind their heading on one line where they fit, else filled below it.
+
+#![tactic(auto)]
+
 ghost use Rattle.std.specs.Prelude.{◌≡◌, length, drop, [], map};
 ghost use Rattle.table.specs.Document.{Doc, nil};
 ghost use Rattle.build.specs.Documents.{softline_doc, intersperse_doc};

@@ -3,6 +3,9 @@
 // The node due stays in locals; what waits stands in the work area (crate waiting), bytes and events on the page (crate page). Trials need no
 // second buffer: their bytes and events stand on the page, and it is put back when the trial is given up.
 // Nothing here is an entry point of the library: each function says what it asks of its caller.
+
+#![tactic(auto)]
+
 ghost use Rattle.std.specs.Prelude.{◌≡◌, false, ◌||◌, ◌∷◌, ◌+◌, ◌*◌, ◌/◌, ◌≤◌, ◌<◌, length, take, drop, ltb};
 ghost use Rattle.table.specs.Node.{way_of};
 ghost use Rattle.rules.specs.Call.{event_words};

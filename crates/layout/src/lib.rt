@@ -3,6 +3,9 @@
 // No public function has a `requires`: any table, text, width, limit and buffers get a numbered answer, and the call ends. The table and the
 // text are only read. A refusal leaves every byte of the output and every event zero; what is past the used part is zero after answer 0 too;
 // the work area is zero after every call. An event is `rules::EVENT_WORDS` words: offset, mark (1 opens, 0 closes), label.
+
+#![tactic(auto)]
+
 ghost use Rattle.std.specs.Prelude.{◌≡◌, []};
 ghost use Rattle.rules.specs.Call.{buffers_right};
 ghost use Rattle.layout.specs.Called.{given, lent, Decided, called_with, default_width, label_width, default_steps};

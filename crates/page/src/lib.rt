@@ -5,6 +5,9 @@
 // stays, so that a page kept from before reads as it did.
 // Contracts speak of the layout rules' pages alone, and nothing here knows what waits: any engine may use it.
 // Nothing here is an entry point of the library: each function says what it asks of its caller.
+
+#![tactic(auto)]
+
 ghost use Rattle.std.specs.Prelude.{◌+◌, ◌*◌, ◌/◌, ◌≤◌, length, take, drop};
 ghost use Rattle.rules.specs.Call.{event_words};
 ghost use Rattle.rules.specs.Layout.{wrote, fed, marked};

@@ -3,6 +3,9 @@
 // No export has a `requires`. A slice is a pointer and a length in elements; null or overlapping buffers are the caller's business.
 // Here, in order: the report; layout, sheet and label over event records; the layout over the events' words.
 // asking.rt: why a group broke. building.rt: the constructors and the block layouts; constructors.rt: which constructor a number makes; counts.rt: the lent counts.
+
+#![tactic(auto)]
+
 mod asking;
 mod building;
 mod constructors;

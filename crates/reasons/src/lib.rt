@@ -3,6 +3,9 @@
 //
 // The summaries stand in the work area, past what waits and the fit test's nodes.
 // Nothing here is an entry point of the library: each function says what it asks of its caller.
+
+#![tactic(auto)]
+
 ghost use Rattle.std.specs.Prelude.{◌/◌, length};
 ghost use Rattle.reasons.specs.Promise.{Lent, Filled, Met as Meeting, Asked, After, Because};
 

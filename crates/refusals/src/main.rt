@@ -1,6 +1,9 @@
 // Tells what is wrong with each of several bad inputs: standard input has them one behind the other, each ended by a `%` and a line feed.
 // Of a sound one it prints the sheet, so a message that is missing shows; the last seven are sound, for the comma, the footers,
 // a byte order mark and words that are cut.
+
+#![tactic(auto)]
+
 use libc::{STDIN_FILENO, STDOUT_FILENO};
 
 // Runs every input.

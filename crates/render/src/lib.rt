@@ -2,6 +2,9 @@
 //
 // The node due is visited, then what waits is taken up: ends of annotations and of trials, until a node is due again or nothing waits.
 // Not an entry point of the library: the crate layout tests sizes and the table before it comes here, and clears the buffers after it.
+
+#![tactic(auto)]
+
 ghost use Rattle.render.specs.Visit.{Start, Ready, Visited, Held, Came};
 ghost use Rattle.render.specs.TakeUp.{Rises, TakenUp, TurnedUp};
 ghost use Rattle.render.specs.Best.{Laid, RanTo};

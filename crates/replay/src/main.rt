@@ -3,6 +3,9 @@
 // neither, and so is an empty one. A line after the cases counts them.
 //
 // lines.rt: the lists of numbers in a line; cases.rt: one case, validated; runs.rt: one run, laid out.
+
+#![tactic(auto)]
+
 use buffer::parts::{behind, front, line_end, part_end};
 use libc::STDOUT_FILENO;
 

@@ -1,6 +1,9 @@
 // A chest's test results: one pallet a line, `note;force;pluck point;remark`. Here: what a line says. numbers.rt: numbers; input.rt: which
 // line is at fault first; tolerance.rt: which rows are out of tolerance. No public function has a `requires`; each says its whole answer
 // by a definition of specs/.
+
+#![tactic(auto)]
+
 ghost use Rattle.std.specs.Prelude.{◌≡◌, ◌+◌, ◌<◌, ◌^◌, length};
 ghost use Rattle.results.specs.Pallets.{fields_of, Ordered, measured, pallet_of, said, parsed};
 

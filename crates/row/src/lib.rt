@@ -1,5 +1,8 @@
 // A row: note, force and pluck point in columns, the remark beside them or below (remark.rt), and the mark. A row out of tolerance is
 // Annotated with the label of what is out.
+
+#![tactic(auto)]
+
 ghost use Rattle.std.specs.Prelude.{◌≡◌, ◌≤◌, length};
 ghost use Rattle.results.specs.Pallets.{parsed};
 ghost use Rattle.results.specs.declared.Line.TheVariants.{Row};

@@ -1,5 +1,8 @@
 // The main job: reads a chest's test results from standard input and prints its sheet for the strip, with `! ` in the margin beside
 // each row out of tolerance. A fault is told on standard error, and then nothing is printed.
+
+#![tactic(auto)]
+
 use libc::{STDERR_FILENO, STDIN_FILENO, STDOUT_FILENO};
 
 // Whether nothing is left to read: a read that failed ends `read_full` too, and what came before it is not the whole input.

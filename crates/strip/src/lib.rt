@@ -1,6 +1,9 @@
 // From a chest's test results to the printed strip, or a message that names the line and what is wrong. Nothing is printed of a sheet
 // that can't be laid out whole, and a write that fails is told.
 // In order: messages; printing; the whole run. marks.rt: where a mark is open.
+
+#![tactic(auto)]
+
 use buffer::parts::{front, line_end};
 use build::Why;
 use chest::Built;

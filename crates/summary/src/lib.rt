@@ -4,6 +4,9 @@
 //
 // A summary is one word: 0 where no Text is passed; one more than the columns of the Texts passed; NEVER where the walk doesn't come through.
 // Nothing here is an entry point of the library: each function says what it asks of its caller.
+
+#![tactic(auto)]
+
 ghost use Rattle.std.specs.Prelude.{◌≡◌, ◌+◌, ◌*◌, ◌/◌, ◌≤◌, ◌<◌, length, get_or};
 ghost use Rattle.summary.specs.Promise.{place_of, join_words, Room, Says, Reads, Below, Summarized, Asked, Leads, Stepped, met_of};
 

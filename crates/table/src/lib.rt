@@ -1,6 +1,9 @@
 // The node table: the kinds by name and as a table, the types of its numbers, what is wrong with one node, and validation with answers 1 to 5.
 // No public function has a `requires`. Each promise is an equation with a definition of specs/, so one answer and one place are
 // possible for each table and text, and two outcomes that a promise allows are equal.
+
+#![tactic(auto)]
+
 ghost use Rattle.std.specs.Prelude.{◌≡◌, true, List, ℕ, ◌+◌, ◌/◌, ◌≤◌, ◌<◌, length, take, drop};
 ghost use Rattle.table.specs.Kinds.{kinds, kind_at};
 ghost use Rattle.buffer.specs.Utf8.{no_feed};

@@ -7,6 +7,9 @@
 //
 // First the pushes, then what is read of an entry, then the searches.
 // Nothing here is an entry point of the library: each function says what it asks of its caller.
+
+#![tactic(auto)]
+
 ghost use Rattle.std.specs.Prelude.{◌≡◌, [], ◌∷◌, ◌+◌, ◌*◌, ◌≤◌, ◌<◌, length, get_or};
 ghost use Rattle.std.proofs.lemmas.List.Edits.{sets};
 ghost use Rattle.machine.specs.Waiting.{trial, closing, next_indent};

@@ -6,6 +6,9 @@
 //
 // The function has no `requires`: any inputs get a numbered answer or a reason, and the call ends. Output, events and work are zero after
 // every call.
+
+#![tactic(auto)]
+
 ghost use Rattle.std.specs.Prelude.{◌≡◌, ◌/◌, length, eqb};
 ghost use Rattle.choice.specs.Pick.{pick};
 ghost use Rattle.rules.specs.Why.{why_refused};

@@ -1,5 +1,8 @@
 // Texts and words as nodes, for rows, headings and the footer of a sheet: a Text of bytes, and a text cut at its blanks and filled by softlines.
 // start.rt: the nodes that all share. Only `together` has a `requires`.
+
+#![tactic(auto)]
+
 ghost use Rattle.std.specs.Prelude.{◌≡◌, ◌<◌, ◌≤◌, length, eqb};
 ghost use Rattle.choice.specs.Pick.{pick};
 ghost use Rattle.table.specs.Document.{Doc};
