@@ -20,7 +20,7 @@ mod affixes;
 mod parts;
 
 // What stands in a block, and by how much it is nested. Way 0 adds, 1 subtracts.
-#[derive(Drop)]
+#[derive(Clone, Copy)]
 pub struct Block {
     pub body: NodeNo,
     pub amount: Indent,
@@ -28,7 +28,7 @@ pub struct Block {
 }
 
 // The Nil and the guard that all alternatives share.
-#[derive(Drop)]
+#[derive(Clone, Copy)]
 pub struct Shared {
     pub none: NodeNo,
     pub guard: NodeNo,

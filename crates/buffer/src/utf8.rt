@@ -48,7 +48,7 @@ pub fn plainly_below_128(text: &[u8], plain: bool, at: usize, n: usize) -> bool
 }
 
 // What a character still owes: so many octets, the next between low and high, the others UTF8-tails.
-#[derive(Drop)]
+#[derive(Clone, Copy)]
 struct Owing {
     count: u32,
     low: u8,
@@ -56,7 +56,7 @@ struct Owing {
 }
 
 // After an octet: what is owed, or that the octet can't stand there.
-#[derive(Drop)]
+#[derive(Clone, Copy)]
 enum Next {
     Owes(Owing),
     Wrong,

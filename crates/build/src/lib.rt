@@ -20,14 +20,14 @@ mod lists;
 mod node;
 
 // How many nodes and text bytes are in use.
-#[derive(Drop)]
+#[derive(Clone, Copy)]
 pub struct Counts {
     pub nodes: u32,
     pub bytes: u32,
 }
 
 // Why a constructor refuses; specs/Outcome.antt has document 01's number for each.
-#[derive(Drop)]
+#[derive(Clone, Copy)]
 pub enum Why {
     Sizes,
     Operand,
@@ -38,14 +38,14 @@ pub enum Why {
 }
 
 // What a constructor answers: the counts with the new node, or a refusal.
-#[derive(Drop)]
+#[derive(Clone, Copy)]
 pub enum Made {
     Node(Counts, NodeNo),
     Refused(Why),
 }
 
 // What a constructor asks for before it adds anything: operands present, amount and text right, nodes and bytes to add.
-#[derive(Drop)]
+#[derive(Clone, Copy)]
 pub struct Asks {
     pub present: bool,
     pub amount: bool,
@@ -54,7 +54,7 @@ pub struct Asks {
     pub bytes: usize,
 }
 
-#[derive(Drop)]
+#[derive(Clone, Copy)]
 pub enum Asked {
     Granted,
     Denied(Why),

@@ -26,14 +26,14 @@ use words::start::{Start, share};
 use words::{Shared, WIDTH, filled};
 
 // All lines with how many they are, or the first that doesn't fit and why.
-#[derive(Drop)]
+#[derive(Clone, Copy)]
 enum Lines {
     Added(Counts, NodeNo, usize),
     Full(usize, Why),
 }
 
 // The sheet; or the first line that doesn't fit, or the last where the footer doesn't, and why.
-#[derive(Drop)]
+#[derive(Clone, Copy)]
 pub enum Built {
     Sheet(Counts, NodeNo),
     Full(usize, Why),

@@ -15,7 +15,7 @@ use rules::EVENT_WORDS;
 use table::NodeNo;
 
 #[repr(C)]
-#[derive(Drop)]
+#[derive(Clone, Copy)]
 pub struct Event {
     pub offset: u32,
     pub mark: u32,

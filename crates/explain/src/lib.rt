@@ -27,7 +27,7 @@ const EVENTS: usize = 12288;
 const WORK: usize = 16384;
 
 // Lines and steps of the parts of the sheet that come before this one.
-#[derive(Drop)]
+#[derive(Clone, Copy)]
 pub struct Before {
     pub lines: u32,
     pub steps: u32,

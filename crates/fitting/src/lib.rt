@@ -15,7 +15,7 @@ use table::{Column, NodeNo};
 use waiting::Mode;
 
 // Where one visit leads: down to a child, with so many nodes left to walk after it; past the node, at a column; or to a yes or a no.
-#[derive(Drop)]
+#[derive(Clone, Copy)]
 pub enum Step {
     Down(NodeNo, usize),
     Done(Column),
@@ -24,7 +24,7 @@ pub enum Step {
 }
 
 // What the fit test says, with the steps left; or the node that is due when none is left.
-#[derive(Drop)]
+#[derive(Clone, Copy)]
 pub enum Fit {
     Yes(u32),
     No(u32),

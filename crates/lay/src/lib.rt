@@ -25,7 +25,7 @@ use waiting::{Due, Mode, Saved};
 // A layout on its way: the steps left, whether a Text ended past width in the innermost trial (0 is no), how many entries wait, and the page.
 // The state comes first in a turn and the page last in it: then a compiler keeps each of its numbers in a register of its own, a tenth of all
 // instructions (docs/PERFORMANCE.md).
-#[derive(Drop)]
+#[derive(Clone, Copy)]
 pub struct State {
     pub left: u32,
     pub past: u32,
@@ -34,7 +34,7 @@ pub struct State {
 }
 
 // Where a turn leads: a node is due; the node is done; or the run stops, with the answer, the place and the steps left.
-#[derive(Drop)]
+#[derive(Clone, Copy)]
 pub enum Turn {
     Go(State, Due),
     Done(State),

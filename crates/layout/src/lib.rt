@@ -23,7 +23,7 @@ pub const LABEL_WIDTH: u32 = 42;
 pub const DEFAULT_STEPS: u32 = 1000000;
 
 // What a call answers: the answer's number and its place, the steps, and how many bytes and events are used.
-#[derive(Drop)]
+#[derive(Clone, Copy)]
 pub struct Report {
     pub answer: u32,
     pub place: NodeNo,

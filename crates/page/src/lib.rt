@@ -17,7 +17,7 @@ use rules::EVENT_WORDS;
 use table::{Column, Indent};
 
 // Counts are as wide as a place in a buffer (docs/PERFORMANCE.md).
-#[derive(Drop)]
+#[derive(Clone, Copy)]
 pub struct Page {
     pub column: Column,
     pub used: usize,
@@ -25,7 +25,7 @@ pub struct Page {
 }
 
 // The page with what was put on it; or there is no room for that.
-#[derive(Drop)]
+#[derive(Clone, Copy)]
 pub enum Put {
     On(Page),
     Full,

@@ -12,7 +12,7 @@ use summary::Reason;
 use why::Answer;
 
 // An answer in numbers: the answer; 0 flat or 1 broken; the reason; node and column. On a refusal all but the first are 0.
-#[derive(Drop)]
+#[derive(Clone, Copy)]
 pub struct Numbers {
     pub answer: u32,
     pub broken: u32,

@@ -15,7 +15,7 @@ use table::{Column, Indent, NodeNo};
 use waiting::{Due, Mode};
 
 // How a run ended: the answer, the place, the steps left, the bytes and the events used.
-#[derive(Drop)]
+#[derive(Clone, Copy)]
 pub struct End {
     pub answer: u32,
     pub place: NodeNo,
@@ -25,14 +25,14 @@ pub struct End {
 }
 
 // How a run ended; or the state of the layout and the node due in it, where the steps equal the limit.
-#[derive(Drop)]
+#[derive(Clone, Copy)]
 pub enum Ran {
     Ended(End),
     AtLimit(State, Due),
 }
 
 // A node due, and the steps left.
-#[derive(Drop)]
+#[derive(Clone, Copy)]
 pub struct Nested {
     pub left: u32,
     pub due: Due,

@@ -12,7 +12,7 @@ ghost use Rattle.replay.specs.Bytes.{bytes_of};
 use buffer::parts::part_end;
 
 // A number of a list, how many times it stands there, and where it ends.
-#[derive(Drop)]
+#[derive(Clone, Copy)]
 struct Item {
     value: u32,
     times: u32,
@@ -20,7 +20,7 @@ struct Item {
 }
 
 // How many numbers were stored, and where their list ends.
-#[derive(Drop)]
+#[derive(Clone, Copy)]
 pub struct Stored {
     pub count: usize,
     pub end: usize,

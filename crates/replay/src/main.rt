@@ -14,7 +14,7 @@ mod lines;
 mod runs;
 
 // How many cases were replayed, and how many went wrong.
-#[derive(Drop)]
+#[derive(Clone, Copy)]
 struct Tally {
     cases: u32,
     wrong: u32,

@@ -7,14 +7,14 @@ use crate::{Fault, Line, parse};
 use buffer::parts::{body_end, line_end};
 
 // Whether a line is wrong.
-#[derive(Drop)]
+#[derive(Clone, Copy)]
 enum Verdict {
     Sound,
     Faulty(Fault),
 }
 
 // No line is wrong, or this one is the first, counted from 1.
-#[derive(Drop)]
+#[derive(Clone, Copy)]
 pub enum Checked {
     AllSound,
     FaultAt(usize, Fault),

@@ -22,7 +22,7 @@ const WIDEST_NOTE: usize = 5;
 
 // One pallet of a line: where force, pluck point and remark start, the force in grams, and the pluck point in tenths of a millimetre.
 // The note starts the line, and each field but the remark ends before the `;` in front of the next.
-#[derive(Drop)]
+#[derive(Clone, Copy)]
 pub struct Pallet {
     pub force: usize,
     pub pluck: usize,
@@ -32,7 +32,7 @@ pub struct Pallet {
 }
 
 // What is wrong with a line.
-#[derive(Drop)]
+#[derive(Clone, Copy)]
 pub enum Fault {
     TooLong,
     NotUtf8,
@@ -46,14 +46,14 @@ pub enum Fault {
 }
 
 // Where the three separators stand, or which field is missing.
-#[derive(Drop)]
+#[derive(Clone, Copy)]
 pub enum Cuts {
     At(usize, usize, usize),
     Missing(Fault),
 }
 
 // What a line says: nothing, a heading, a pallet, or what is wrong.
-#[derive(Drop)]
+#[derive(Clone, Copy)]
 pub enum Line {
     Empty,
     Heading,

@@ -3,7 +3,7 @@ ghost use Rattle.std.specs.Prelude.{◌≡◌, ◌||◌, eqb};
 ghost use Rattle.results.specs.Numbers.{number_of, tenths_add, tenths_of, Small};
 
 // A number that was read, or none.
-#[derive(Drop)]
+#[derive(Clone, Copy)]
 pub enum Amount {
     Is(u32),
     NoNumber,

@@ -18,7 +18,7 @@ const PLUCK_LOW: u32 = 8;
 const PLUCK_HIGH: u32 = 16;
 
 // How a line stands to the tolerance.
-#[derive(Drop)]
+#[derive(Clone, Copy)]
 enum Standing {
     NoRow,
     Within,
@@ -26,14 +26,14 @@ enum Standing {
 }
 
 // How many rows an input has, and how many of them are out of tolerance.
-#[derive(Drop)]
+#[derive(Clone, Copy)]
 pub struct Tally {
     pub rows: usize,
     pub out: usize,
 }
 
 // The next row out of tolerance: where it starts, where its note ends and where its line ends.
-#[derive(Drop)]
+#[derive(Clone, Copy)]
 pub enum Next {
     Found(usize, usize, usize),
     NoMore,

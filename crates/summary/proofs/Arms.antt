@@ -36,14 +36,14 @@ none_of k a b c h0 h1 one h3 h5 h6 h8 =
 -- ---- a sound node by its words
 
 module _ {T : List ℕ} {n : ℕ} {w : Words} (sound : Sound 65536 n (node_at T n)) (r : Reads T n w) where
-  pub node_of : (k : ℕ) → w.kind ≡ k → node_at T n ≡ node_of k w.a w.b w.c
-  node_of k e = r.node ∙ ap (λ k. node_of k w.a w.b w.c) e
+  pub node_of_lem : (k : ℕ) → w.kind ≡ k → node_at T n ≡ node_of k w.a w.b w.c
+  node_of_lem k e = r.node ∙ ap (λ k. node_of k w.a w.b w.c) e
 
   pub node-none : (w.kind ≡ 0 → ⊥) → (w.kind ≡ 1 → ⊥) → (OneChild w.kind → ⊥) → (w.kind ≡ 3 → ⊥) → (w.kind ≡ 5 → ⊥) → (w.kind ≡ 6 → ⊥) → (w.kind ≡ 8 → ⊥) → node_at T n ≡ Node.fail
   node-none h0 h1 one h3 h5 h6 h8 = r.node ∙ none_of w.kind w.a w.b w.c h0 h1 one h3 h5 h6 h8
 
   sound_of : (k : ℕ) → w.kind ≡ k → Sound 65536 n (node_of k w.a w.b w.c)
-  sound_of k e = subst (Sound 65536 n) (node_of k e) sound
+  sound_of k e = subst (Sound 65536 n) (node_of_lem k e) sound
 
   -- children are below, and a Text's columns are no more than the text's bytes
   pub append-below : w.kind ≡ 1 → (w.a < n) × (w.b < n)
@@ -82,16 +82,16 @@ module _ {T M : List ℕ} {n : ℕ} (h : Below T M n) where
 
     pub says-nil : (f : Bool) → w.kind ≡ 0 → Says T n f 0
     unfolding summary
-    says-nil f e = says_as Node.nil (node_of h.sound r 0 e) f 0 (λ bytes. refl)
+    says-nil f e = says_as Node.nil (node_of_lem h.sound r 0 e) f 0 (λ bytes. refl)
 
     pub says-text : (f : Bool) → w.kind ≡ 6 → Says T n f (w.c + 1)
     unfolding summary
     says-text f e =
-        says_as (Node.text w.a w.b w.c) (node_of h.sound r 6 e) f (w.c + 1) (λ bytes. rw (le-leb w.c 65536 (text-columns h.sound r e)))
+        says_as (Node.text w.a w.b w.c) (node_of_lem h.sound r 6 e) f (w.c + 1) (λ bytes. rw (le-leb w.c 65536 (text-columns h.sound r e)))
 
     says-hardline : (f : Bool) → w.kind ≡ 5 → Says T n f 65538
     unfolding summary
-    says-hardline f e = says_as Node.hardline (node_of h.sound r 5 e) f 65538 (λ bytes. refl)
+    says-hardline f e = says_as Node.hardline (node_of_lem h.sound r 5 e) f 65538 (λ bytes. refl)
 
     says-fail : (f : Bool) → node_at T n ≡ Node.fail → Says T n f 65538
     unfolding summary
@@ -110,7 +110,7 @@ module _ {T M : List ℕ} {n : ℕ} (h : Below T M n) where
     unfolding summary
     says-append f e =
         let less = append-below h.sound r e in
-        says_as (Node.append w.a w.b) (node_of h.sound r 1 e) f _
+        says_as (Node.append w.a w.b) (node_of_lem h.sound r 1 e) f _
         (λ bytes. ap₂ join_words (h.summed w.a less.0 f bytes) (h.summed w.b less.1 f bytes)
         ∙ sym (join-words (summary (tree T bytes w.a) (mode_if f)) (summary (tree T bytes w.b) (mode_if f))))
 
@@ -118,22 +118,22 @@ module _ {T M : List ℕ} {n : ℕ} (h : Below T M n) where
     unfolding summary
     says_one f kind =
         let child = h.summed w.a (one_below h.sound r kind) f in
-        ⊎_elim (λ e. says_as (Node.group w.a) (node_of h.sound r 2 e) f _ child)
-        (⊎_elim (λ e. says_as _ (node_of h.sound r 4 e) f _ child)
-        (⊎_elim (λ e. says_as (Node.annotated w.a w.b) (node_of h.sound r 7 e) f _ child)
-        (λ e. says_as (Node.align w.a) (node_of h.sound r 9 e) f _ child)))
+        ⊎_elim (λ e. says_as (Node.group w.a) (node_of_lem h.sound r 2 e) f _ child)
+        (⊎_elim (λ e. says_as _ (node_of_lem h.sound r 4 e) f _ child)
+        (⊎_elim (λ e. says_as (Node.annotated w.a w.b) (node_of_lem h.sound r 7 e) f _ child)
+        (λ e. says_as (Node.align w.a) (node_of_lem h.sound r 9 e) f _ child)))
         kind
 
     pub says-flat_alt-flat : w.kind ≡ 3 → Says T n true (get_or M (place_of w.b true) 0)
     unfolding summary
     says-flat_alt-flat e =
-        says_as (Node.flat_alt w.a w.b) (node_of h.sound r 3 e) true _ (h.summed w.b (flat_alt-below h.sound r e).1 true)
+        says_as (Node.flat_alt w.a w.b) (node_of_lem h.sound r 3 e) true _ (h.summed w.b (flat_alt-below h.sound r e).1 true)
 
     pub says-flat_alt-broken : w.kind ≡ 3 → Says T n false (get_or M (place_of w.a false) 0)
     unfolding summary
     says-flat_alt-broken e =
-        says_as (Node.flat_alt w.a w.b) (node_of h.sound r 3 e) false _ (h.summed w.a (flat_alt-below h.sound r e).0 false)
+        says_as (Node.flat_alt w.a w.b) (node_of_lem h.sound r 3 e) false _ (h.summed w.a (flat_alt-below h.sound r e).0 false)
 
     pub says-union : (f : Bool) → w.kind ≡ 8 → Says T n f (get_or M (place_of w.b f) 0)
     unfolding summary
-    says-union f e = says_as (Node.union w.a w.b) (node_of h.sound r 8 e) f _ (h.summed w.b (union-below h.sound r e) f)
+    says-union f e = says_as (Node.union w.a w.b) (node_of_lem h.sound r 8 e) f _ (h.summed w.b (union-below h.sound r e) f)

@@ -17,7 +17,7 @@ const NEVER: u32 = 65538;
 
 // Why a group goes broken or flat: the first node that breaks its fit test, with the column reached there, for a Text at its end; or what ends it
 // flat.
-#[derive(Drop)]
+#[derive(Clone, Copy)]
 pub enum Reason {
     AtFail(NodeNo, Column),
     HardlineInside(NodeNo, Column),
@@ -27,14 +27,14 @@ pub enum Reason {
 }
 
 // Where the walk down a node leads: through it, to a column; or to a reason.
-#[derive(Drop)]
+#[derive(Clone, Copy)]
 pub enum Met {
     Through(Column),
     Found(Reason),
 }
 
 // One step of the way down: to a node below, from a column; or to where the walk leads.
-#[derive(Drop)]
+#[derive(Clone, Copy)]
 enum Step {
     Down(NodeNo, Column),
     Ends(Met),

@@ -62,8 +62,8 @@ module _ (text : List ℕ) (n k a b c : ℕ) where
   at-kind : (j : ℕ) (q : Bool) → not (eqb k j) || q ≡ true → k ≡ j → q ≡ true
   at-kind j q e h = or-true (not (eqb k j)) q e (ap not (eq-eqb k j h))
 
-  kind_at : (j : ℕ) (q : Bool) → (k ≡ j → q ≡ true) → not (eqb k j) || q ≡ true
-  kind_at j q f = true-or (not (eqb k j)) q (λ e. f (eqb-true k j (not-false (eqb k j) e)))
+  kind_at_lem : (j : ℕ) (q : Bool) → (k ≡ j → q ≡ true) → not (eqb k j) || q ≡ true
+  kind_at_lem j q f = true-or (not (eqb k j)) q (λ e. f (eqb-true k j (not-false (eqb k j) e)))
 
   -- no fault: the node is as document 01 asks
   pub right_of : fault_of text n k a b c ≡ 0 → NodeRight text n k a b c
@@ -108,10 +108,10 @@ module _ (text : List ℕ) (n k a b c : ℕ) where
       (passes _ _ 3
       (true-and _ _
       (true-and _ _ (true-or _ _ (λ f. lt-ltb a n (r.first-child (leb-false h 0 f)))) (true-or _ _ (λ f. lt-ltb b n (r.second-child (leb-false h 1 f)))))
-      (kind_at 4 _ (λ s. true-and _ _ (le-leb b 1000 (r.nest s).amount) (le-leb c 1 (r.nest s).way))))
-      (passes _ _ 4 (kind_at 6 _ (λ s. le-leb (a + b) (length text) (r.text s).inside))
+      (kind_at_lem 4 _ (λ s. true-and _ _ (le-leb b 1000 (r.nest s).amount) (le-leb c 1 (r.nest s).way))))
+      (passes _ _ 4 (kind_at_lem 6 _ (λ s. le-leb (a + b) (length text) (r.text s).inside))
       (passes _ _ 5
-      (kind_at 6 _ (λ s. let t = r.text s in of-columns (take b (drop a text)) c b (part_length text a b t.inside) t.unfed t.utf8 t.below128 t.columns))
+      (kind_at_lem 6 _ (λ s. let t = r.text s in of-columns (take b (drop a text)) c b (part_length text a b t.inside) t.unfed t.utf8 t.below128 t.columns))
       refl)))
 
 -- ---- the first fault

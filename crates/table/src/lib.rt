@@ -39,7 +39,7 @@ pub const FAIL: u32 = 10;
 pub const KIND_COUNT: u32 = 11;
 
 // A node's four words, where they travel together.
-#[derive(Drop)]
+#[derive(Clone, Copy)]
 pub struct Words {
     pub kind: u32,
     pub a: u32,
@@ -48,7 +48,7 @@ pub struct Words {
 }
 
 // How many children a kind has, and how many words it uses. Children and used words come first among a, b, c.
-#[derive(Drop)]
+#[derive(Clone, Copy)]
 pub struct KindInfo {
     pub children: u32,
     pub words: u32,
@@ -111,15 +111,15 @@ pub fn all_kinds() -> [KindInfo; 11]
 }
 
 // A column of the sheet.
-#[derive(Drop)]
+#[derive(Clone, Copy)]
 pub struct Column(pub u32);
 
 // An indentation.
-#[derive(Drop)]
+#[derive(Clone, Copy)]
 pub struct Indent(pub u32);
 
 // A node's number.
-#[derive(Drop)]
+#[derive(Clone, Copy)]
 pub struct NodeNo(pub u32);
 
 impl Column {
@@ -141,7 +141,7 @@ impl Indent {
 }
 
 // The first fault, and the node it is at; 0 and 0 for none.
-#[derive(Drop)]
+#[derive(Clone, Copy)]
 pub struct Fault {
     pub answer: u32,
     pub place: NodeNo,
@@ -221,7 +221,7 @@ pub fn columns_right(bytes: &[u8], c: Column) -> bool
 
 // What is seen of all of the text at once: whether it is below 128, and whether it has no line feed. Mostly it has none, and then no Text
 // is looked through for one.
-#[derive(Drop)]
+#[derive(Clone, Copy)]
 struct Seen {
     low: bool,
     unfed: bool,

@@ -38,11 +38,11 @@ pub const TRIAL: u32 = 1;
 pub const CLOSING: u32 = 2;
 
 // 0 is broken, any other flat.
-#[derive(Drop)]
+#[derive(Clone, Copy)]
 pub struct Mode(pub u32);
 
 // A node that is due, or that will be when it is taken up, with its indentation and mode.
-#[derive(Drop)]
+#[derive(Clone, Copy)]
 pub struct Due {
     pub node: NodeNo,
     pub indent: Indent,
@@ -50,7 +50,7 @@ pub struct Due {
 }
 
 // What a trial saves: the page, and whether a Text had ended past width (0 is no).
-#[derive(Drop)]
+#[derive(Clone, Copy)]
 pub struct Saved {
     pub page: Page,
     pub past: u32,

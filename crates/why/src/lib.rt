@@ -26,7 +26,7 @@ use waiting::Due;
 const NO_VISIT: u32 = 13;
 
 // What the call answers: a refusal's number, or the reason.
-#[derive(Drop)]
+#[derive(Clone, Copy)]
 pub enum Answer {
     Refused(u32),
     Told(Reason),

@@ -19,7 +19,7 @@ use table::{Column, NodeNo};
 pub mod start;
 
 // The nodes that all rows and the footer share.
-#[derive(Drop)]
+#[derive(Clone, Copy)]
 pub struct Shared {
     pub none: NodeNo,
     pub hardline: NodeNo,

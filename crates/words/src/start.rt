@@ -12,7 +12,7 @@ use build::{Counts, Made, Why};
 use table::NodeNo;
 
 // The shared nodes; or why there is no room for all of them.
-#[derive(Drop)]
+#[derive(Clone, Copy)]
 pub enum Start {
     Ready(Counts, Shared),
     Full(Why),
