@@ -126,6 +126,8 @@ module _ (W : ℕ) where
   first_one ends ends = refl
   first_one (passes h k) (passes g j) = first_one k j
   first_one (passes h k) (breaks (at-text g)) = absurd (omega arith)
+  first_one (breaks h) ends = elim h [ ]
+  first_one ends (breaks g) = elim g [ ]
 
   -- ---- flat exactly if nothing breaks before
 
@@ -145,6 +147,8 @@ module _ (W : ℕ) where
   unbroken-flat ends to_a-hardline = refl
   unbroken-flat (passes h k) (past_a-text g u) = unbroken-flat k u
   unbroken-flat (breaks (at-text h)) (past_a-text g u) = absurd (omega arith)
+  unbroken-flat (breaks at-fail) u = elim u [ ]
+  unbroken-flat (breaks at-hardline) u = elim u [ ]
 
   pub flat_exactly : (a : Tree) (ws : List Entry) (c : ℕ) → goes_flat (reason W a ws c) ≡ true ↔ Unbroken c (stops a flat ++ waiting_stops ws)
   flat_exactly a ws c = (flat_unbroken (reason_first a ws c), unbroken-flat (reason_first a ws c))
