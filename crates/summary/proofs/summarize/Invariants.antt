@@ -1,0 +1,14 @@
+-- `summary::summarize` meets its contract: the loop carries `Filling`. Assumes nothing.
+use Prim.Native.Nat.{◌-◌, ◌/◌}
+use lib.ListN.{length}
+use Rattle.summary.proofs.Fill.{Filling}
+use Rattle.summary.proofs.summarize.Reads as reads
+use Rattle.summary.proofs.summarize.Lts as lts
+use Rattle.summary.proofs.node_summary.Reads as node-summary-reads
+use Rattle.summary.proofs.summarize.Given as goal
+
+abbrev pub invariant-loop-n : goal.invariant-loop-n
+invariant-loop-n l = Filling l.table l.initial.memo (length l.table / 4) l.memo l.n
+
+abbrev pub decreases-loop-n : goal.decreases-loop-n
+decreases-loop-n l = l.nodes - l.n
