@@ -170,8 +170,9 @@ module _ {ev₀ w : List ℕ} {s₀ : State} {ev : List ℕ} {s : State} (h : Ri
                 let g = h.said L out N e in-s waits in
                 let own = rw (closing-top w s.depth some no_Node no-trial) at g.0 in
                 let slots : L.slots ≡ length ev / event_words = rw h.long e in
-                let noted = noted-on-says p₁ out (h.within out in-s) page refl in (
+                let noted = noted-on-says p₁ out (h.within out in-s) page refl in
+                let fits = rw (← slots) at noted.0 in (
                   stacked_mono N _ s.page.used page.used s.page.events page.events (stack_of d w) (omega (arith, counts.0)) (omega (arith, counts.1)) own.1,
-                  rw noted.1 (sym (rw (closing-top w s.depth some no_Node no-trial, slots, noted.0))) ∙ g.1,
+                  rw noted.1 (sym (rw (closing-top w s.depth some no_Node no-trial, fits))) ∙ g.1,
                 );
           }

@@ -1,0 +1,10 @@
+-- `render::nests_down` meets its contract: the loop carries `Falling`, each Nest by `falls-next`.
+-- Assumes nothing.
+use Rattle.render.proofs.Again.{Falling}
+use Rattle.render.proofs.nests_down.Given as goal
+
+abbrev pub invariant-loop-left : goal.invariant-loop-left
+invariant-loop-left l = Falling l.table l.initial.left l.initial.due l.left l.due
+
+abbrev pub decreases-loop-left : goal.decreases-loop-left
+decreases-loop-left l = l.left

@@ -1,0 +1,9 @@
+-- `render::take_up` meets its contract: a node on top is due, by `rise-node`; else it is what `take_up_ends` promises.
+-- Assumes nothing.
+use mathlib.Core.Path.{sym, ◌∙◌}
+use Rattle.render.proofs.Rising.{rise-start, rise-node}
+use Rattle.render.proofs.take_up.Goals as goal
+
+pub returns-then-tag_at-eq-NODE : goal.returns-then-tag_at-eq-NODE
+returns-then-tag_at-eq-NODE c =
+    rise-node (rise-start _ _ _ c.requires) c.if-state-gt0.true _ (sym c.tag_at.ensures ∙ c.if-tag_at-eq-NODE.true) c.due_at.ensures
