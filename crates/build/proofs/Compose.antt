@@ -130,7 +130,7 @@ unfolding parts.joined joined_doc
 joined-makes {s} c n [] h b = record { grown = same s; clean = c; present = h; unfolds = refl }
 joined-makes {s} c n (m ∷ ns) h b =
     let first = append-makes c n m h b.0 in
-    let rest = joined-makes first.clean (parts.append s n m).node ns first.present (below_more ns (more-nodes first.grown) b.1) in
+    let rest = joined-makes {s = (parts.append s n m).draft} first.clean (parts.append s n m).node ns first.present (below_more ns (more-nodes first.grown) b.1) in
     after first (meaning (ap₂ joined_doc first.unfolds (docs_still c first ns b.1)) rest)
 
 module _ {s : Draft} (c : Clean s) where
