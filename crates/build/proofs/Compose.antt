@@ -15,7 +15,7 @@ use Rattle.choice.specs.Pick.{pick}
 use Rattle.table.specs.Kinds.{kinds, kind_at}
 use Rattle.buffer.specs.Utf8.{every, ascii, no_feed}
 use Rattle.table.specs.Fault.{columns_right, fault_of}
-use Rattle.table.specs.Document.{Doc, doc, nil, append, group, flat_alt, hardline, text, align}
+use Rattle.table.specs.Document.{Doc, doc, nil, flat_alt, hardline, text, align}
 use Rattle.build.specs.Draft.{Draft, Built, add, write}
 use Rattle.build.specs.Parts as parts
 use Rattle.build.specs.Documents.{append_doc, group_doc, text_doc, space_doc, line_doc, line₀Doc, softline_doc, softline₀Doc, hang_doc, indent_doc, enclose_doc, joined_doc, concat_doc, separated_doc, intersperse_doc}

@@ -1,9 +1,6 @@
-use mathlib.Core.Path.{◌≡◌, refl, sym, ◌∙◌}
+use mathlib.Core.Path.{refl, sym, ◌∙◌}
 use native.Mathlib.Omega.{arith}
-use Prim.Native.Nat.{◌-◌}
-use lib.ListN.{drop}
-use Rattle.build.specs.Constructors.{concat_made}
-use Rattle.build.proofs.Joins.{join_all, join-refused}
+use Rattle.build.proofs.Joins.{join-refused}
 use Rattle.build.proofs.Concats.{concat-none, concat-made, concat-turn, concat-end}
 use Rattle.build.proofs.Counts.concat.Goals as goal
 
@@ -27,8 +24,8 @@ shape_of-table-in_default c =
 pub returns-in_default : goal.returns-in_default
 returns-in_default c =
     let from_first =
-        concat-made c.args.self c.args.table.now c.args.text.now c.args.nodes.now (omega (arith, c.if-nodes-eq0.false))
-        (rw (c.has_all-present.ensures, c.less_one-more.ensures, c.solid.ensures) at c.older-made.ensures) in
+    concat-made c.args.self c.args.table.now c.args.text.now c.args.nodes.now (omega (arith, c.if-nodes-eq0.false))
+    (rw (c.has_all-present.ensures, c.less_one-more.ensures, c.solid.ensures) at c.older-made.ensures) in
     sym
     (join-refused c.loop-i.table c.args.text.now _
     c.in_default.is)
@@ -59,8 +56,8 @@ shape_of-table c = c.loop-i.invariant.kept
 pub returns : goal.returns
 returns c =
     let from_first =
-        concat-made c.args.self c.args.table.now c.args.text.now c.args.nodes.now (omega (arith, c.if-nodes-eq0.false))
-        (rw (c.has_all-present.ensures, c.less_one-more.ensures, c.solid.ensures) at c.older-made.ensures) in
+    concat-made c.args.self c.args.table.now c.args.text.now c.args.nodes.now (omega (arith, c.if-nodes-eq0.false))
+    (rw (c.has_all-present.ensures, c.less_one-more.ensures, c.solid.ensures) at c.older-made.ensures) in
     concat-end c.args.nodes.now c.loop-i.i
     c.loop-i-test.false
     ∙ c.loop-i.invariant.joins

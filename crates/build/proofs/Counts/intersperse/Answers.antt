@@ -1,11 +1,7 @@
-use mathlib.Core.Path.{◌≡◌, refl, sym, ◌∙◌}
+use mathlib.Core.Path.{refl, sym, ◌∙◌}
 use native.Mathlib.Omega.{arith}
-use Prim.Native.Nat.{◌-◌}
-use lib.ListN.{drop}
-use Rattle.build.specs.Parts.{separated}
-use Rattle.build.specs.Constructors.{intersperse_made}
 use Rattle.build.proofs.Leaf.{by-operands}
-use Rattle.build.proofs.Joins.{join_all, join-refused}
+use Rattle.build.proofs.Joins.{join-refused}
 use Rattle.build.proofs.Separated.{intersperse-none, intersperse-made, intersperse-turn, intersperse-end}
 use Rattle.build.proofs.Counts.intersperse.Goals as goal
 
@@ -33,9 +29,9 @@ shape_of-table-in_default c =
 pub returns-in_default : goal.returns-in_default
 returns-in_default c =
     let from_first =
-        intersperse-made c.args.separator.0 c.args.nodes.now (omega (arith, c.if-nodes-eq0.false)) c.args.self c.args.table.now
-        c.args.text.now
-        (rw (c.has_with-present.ensures, c.separated_adds-more.ensures) at c.older-made.ensures) in
+    intersperse-made c.args.separator.0 c.args.nodes.now (omega (arith, c.if-nodes-eq0.false)) c.args.self c.args.table.now
+    c.args.text.now
+    (rw (c.has_with-present.ensures, c.separated_adds-more.ensures) at c.older-made.ensures) in
     sym
     (join-refused c.loop-i.table c.args.text.now _
     c.in_default.is)
@@ -70,8 +66,8 @@ shape_of-table c = c.loop-i.invariant.kept
 pub returns : goal.returns
 returns c =
     let from_first =
-        intersperse-made c.args.separator.0 c.args.nodes.now (omega (arith, c.if-nodes-eq0.false)) c.args.self c.args.table.now
-        c.args.text.now
-        (rw (c.has_with-present.ensures, c.separated_adds-more.ensures) at c.older-made.ensures) in
+    intersperse-made c.args.separator.0 c.args.nodes.now (omega (arith, c.if-nodes-eq0.false)) c.args.self c.args.table.now
+    c.args.text.now
+    (rw (c.has_with-present.ensures, c.separated_adds-more.ensures) at c.older-made.ensures) in
     let args = c.args in
     intersperse-end args.separator.0 args.nodes.now c.loop-i.i c.loop-i-test.false ∙ c.loop-i.invariant.joins ∙ from_first

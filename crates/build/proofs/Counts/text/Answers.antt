@@ -1,7 +1,5 @@
 -- `text`: one node and its bytes.
 use native.Mathlib.Omega.{arith}
-use Prim.Native.Nat.{◌+◌, ◌≤◌}
-use lib.ListN.{length}
 use Rattle.build.proofs.Texts.{text_denied, text-node-room, text_byte-room, text-empty, text-full}
 use Rattle.build.proofs.Counts.text.Goals as goal
 
@@ -26,22 +24,22 @@ returns-then-size-eq0 c =
 pub copy_bytes-requires : goal.copy_bytes-requires
 copy_bytes-requires c =
     let room =
-        text_byte-room c.args.self c.args.table.now c.args.text.now c.args.bytes.now c.args.columns.0
-        c.columns_right-right.ensures c.ask-asked.ensures c.in_default.is c.if-size-eq0.false in
+    text_byte-room c.args.self c.args.table.now c.args.text.now c.args.bytes.now c.args.columns.0
+    c.columns_right-right.ensures c.ask-asked.ensures c.in_default.is c.if-size-eq0.false in
     (omega arith, room.1)
 
 pub overflow_cast-long : goal.overflow_cast-long
 overflow_cast-long c =
     let room =
-        text_byte-room c.args.self c.args.table.now c.args.text.now c.args.bytes.now c.args.columns.0
-        c.columns_right-right.ensures c.ask-asked.ensures c.in_default.is c.if-size-eq0.false in
+    text_byte-room c.args.self c.args.table.now c.args.text.now c.args.bytes.now c.args.columns.0
+    c.columns_right-right.ensures c.ask-asked.ensures c.in_default.is c.if-size-eq0.false in
     omega (arith, room.0)
 
 pub overflow_add-longer : goal.overflow_add-longer
 overflow_add-longer c =
     let room =
-        text_byte-room c.args.self c.args.table.now c.args.text.now c.args.bytes.now c.args.columns.0
-        c.columns_right-right.ensures c.ask-asked.ensures c.in_default.is c.if-size-eq0.false in
+    text_byte-room c.args.self c.args.table.now c.args.text.now c.args.bytes.now c.args.columns.0
+    c.columns_right-right.ensures c.ask-asked.ensures c.in_default.is c.if-size-eq0.false in
     omega (arith, room.0)
 
 pub add-requires-2 : goal.add-requires-2
