@@ -15,7 +15,7 @@ use Rattle.choice.specs.Pick.{pick}
 use Rattle.table.specs.Kinds.{kinds, kind_at}
 use Rattle.buffer.specs.Utf8.{every, ascii, no_feed}
 use Rattle.table.specs.Fault.{columns_right, fault_of}
-use Rattle.table.specs.Document.{Doc, doc, nil, append, group, flat_alt, hardline, text, align}
+use Rattle.table.specs.Document.{Doc, doc, nil, flat_alt, hardline, text, align}
 use Rattle.build.specs.Draft.{Draft, Built, add, write}
 use Rattle.build.specs.Parts as parts
 use Rattle.build.specs.Documents.{append_doc, group_doc, text_doc, space_doc, line_doc, line₀Doc, softline_doc, softline₀Doc, hang_doc, indent_doc, enclose_doc, joined_doc, concat_doc, separated_doc, intersperse_doc}
@@ -130,7 +130,7 @@ unfolding parts.joined joined_doc
 joined-makes {s} c n [] h b = record { grown = same s; clean = c; present = h; unfolds = refl }
 joined-makes {s} c n (m ∷ ns) h b =
     let first = append-makes c n m h b.0 in
-    let rest = joined-makes first.clean (parts.append s n m).node ns first.present (below_more ns (more-nodes first.grown) b.1) in
+    let rest = joined-makes {s = (parts.append s n m).draft} first.clean (parts.append s n m).node ns first.present (below_more ns (more-nodes first.grown) b.1) in
     after first (meaning (ap₂ joined_doc first.unfolds (docs_still c first ns b.1)) rest)
 
 module _ {s : Draft} (c : Clean s) where

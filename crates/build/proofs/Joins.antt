@@ -168,11 +168,11 @@ pub join-refused : {m : Made} {why : Why} (table text ks : List ℕ) → m ≡ R
 join-refused {m} {why} table text ks e = rw e (join-refused-on why table text ks)
 
 module _ {c₀ : Counts} {table₀ text₀ : List ℕ} {present amount right : Bool} {whole : Draft → Built} (begun : Begun c₀ table₀ text₀ present amount right whole) where
-  join_along : {c : Counts} {n : NodeNo} (ks : List ℕ) {table text : List ℕ} → Below c₀.nodes ks → Along c₀ table₀ text₀ whole c n.0 ks table text
+  join_along : (ks : List ℕ) {c : Counts} {n : NodeNo} {table text : List ℕ} → Below c₀.nodes ks → Along c₀ table₀ text₀ whole c n.0 ks table text
       → join_all (Node c n) table text ks ≡ made c₀ table₀ text₀ present amount right whole
   unfolding join_all
   join_along [] b a = along-end begun a
-  join_along {c} {n} (k ∷ ks) {table} {text} b a =
+  join_along (k ∷ ks) {c} {n} {table} {text} b a =
       let x = append_made c table text n.0 k in
       let told = made_told c table text (has c n.0 && has c k) true true (λ s. append s n.0 k) in
       let went = along_went begun a b.0 {r = x.made} {table' = x.table} {text' = x.text} told in

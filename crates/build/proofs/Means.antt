@@ -14,7 +14,7 @@ use Rattle.table.specs.Kinds.{kinds, kind_at}
 use Rattle.table.specs.Node.{way_of}
 use Rattle.table.specs.Fault.{fault_of}
 use Rattle.table.specs.Unfold.{tree}
-use Rattle.table.specs.Document.{Doc, doc, nil, append, group, flat_alt, nest, hardline, text, annotated, union, align, fail}
+use Rattle.table.specs.Document.{Doc, doc, nil, append, group, flat_alt, nest, hardline, annotated, union, align, fail}
 use Rattle.build.specs.Draft.{Draft, Built, older, add}
 use Rattle.build.specs.Parts as parts
 use Rattle.build.specs.Documents.{append_doc, group_doc, nest_doc}
