@@ -4,13 +4,10 @@
 use Prim.Native.Nat.{ℕ, zero, suc, ◌+◌, ◌-◌, ◌/◌, ◌%◌, ◌≤◌, ◌<◌}
 use native.Mathlib.Omega.{arith}
 use mathlib.Core.Path.{◌≡◌, refl, ap, ap₂, ◌∙◌}
-use mathlib.Core.Bool.{Bool, true, false}
-use mathlib.Core.List.{List, [], ◌∷◌, ◌++◌}
-use lib.ListN.{length, take, drop, set, length-append, length-set}
-use lib.Seq.{take_all, drop-cons, drop-set-lt, get_or-set_same}
-use lib.Dec.{eqb}
+use mathlib.Core.List.{List, ◌∷◌}
+use lib.ListN.{length, drop, set, length-set}
+use lib.Seq.{drop-cons, drop-set-lt, get_or-set_same}
 use borrow.Author.Tests.{eq-eqb, ne_eqb}
-use Rattle.choice.specs.Pick.{pick}
 use Rattle.append.specs.Decimal.{digits_on}
 
 -- a digit stored before those that stand
