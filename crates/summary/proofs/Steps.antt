@@ -22,7 +22,7 @@ use Rattle.table.specs.declared.Words.{Words}
 use Rattle.table.specs.declared.NodeNo.{NodeNo}
 use Rattle.table.specs.declared.Column.{Column}
 use Rattle.summary.proofs.Laws.{Comes, summary-met, summary_bound, came-bare, came-fits, came-past}
-use Rattle.summary.proofs.Arms.{OneChild, node_of, node-none, append-below, flat_alt-below, union-below, one_below, unfolds}
+use Rattle.summary.proofs.Arms.{OneChild, node_of_lem, node-none, append-below, flat_alt-below, union-below, one_below, unfolds}
 
 module _ {T M : List ℕ} {n c W N : ℕ} (h : Asked T M n c W N) where
   pub sound : Sound 65536 n (node_at T n)
@@ -56,7 +56,7 @@ module _ {T M : List ℕ} {n c W N : ℕ} (h : Asked T M n c W N) where
 
       pub step-nil : w.kind ≡ 0 → Leads T n f c W (through c)
       unfolding first_in
-      step-nil e = leads_as Node.nil (node_of sound r 0 e) _ (λ bytes. refl)
+      step-nil e = leads_as Node.nil (node_of_lem sound r 0 e) _ (λ bytes. refl)
 
       pub step-fail : (w.kind ≡ 0 → ⊥) → (w.kind ≡ 1 → ⊥) → (OneChild w.kind → ⊥) → (w.kind ≡ 3 → ⊥) → (w.kind ≡ 5 → ⊥) → (w.kind ≡ 6 → ⊥) → (w.kind ≡ 8 → ⊥)
           → Leads T n f c W (found (at_fail n c))
@@ -69,27 +69,27 @@ module _ {T M : List ℕ} {n c W N : ℕ} (h : Asked T M n c W N) where
 
       pub step-text : w.kind ≡ 6 → c + w.c ≤ W → Leads T n f c W (through (c + w.c))
       unfolding first_in
-      step-text e g = leads_as (Node.text w.a w.b w.c) (node_of sound r 6 e) _ (λ bytes. ap (ended (c + w.c)) (sym (le-leb (c + w.c) W g)))
+      step-text e g = leads_as (Node.text w.a w.b w.c) (node_of_lem sound r 6 e) _ (λ bytes. ap (ended (c + w.c)) (sym (le-leb (c + w.c) W g)))
 
       pub step-text-past : w.kind ≡ 6 → W < c + w.c → Leads T n f c W (found (text_past n (c + w.c)))
       unfolding first_in
-      step-text-past e g = leads_as (Node.text w.a w.b w.c) (node_of sound r 6 e) _ (λ bytes. ap (ended (c + w.c)) (sym (lt-leb (c + w.c) W g)))
+      step-text-past e g = leads_as (Node.text w.a w.b w.c) (node_of_lem sound r 6 e) _ (λ bytes. ap (ended (c + w.c)) (sym (lt-leb (c + w.c) W g)))
 
       -- Group, Nest, Annotated and Align are walked through
       pub step_one : OneChild w.kind → Goes T n f c W w.a c
       unfolding first_in
       step_one kind =
           let less = one_below sound r kind in
-          ⊎_elim (λ e. stays_as (Node.group w.a) (node_of sound r 2 e) _ less (λ bytes. refl))
-          (⊎_elim (λ e. stays_as _ (node_of sound r 4 e) _ less (λ bytes. refl))
-          (⊎_elim (λ e. stays_as (Node.annotated w.a w.b) (node_of sound r 7 e) _ less (λ bytes. refl))
-          (λ e. stays_as (Node.align w.a) (node_of sound r 9 e) _ less (λ bytes. refl))))
+          ⊎_elim (λ e. stays_as (Node.group w.a) (node_of_lem sound r 2 e) _ less (λ bytes. refl))
+          (⊎_elim (λ e. stays_as _ (node_of_lem sound r 4 e) _ less (λ bytes. refl))
+          (⊎_elim (λ e. stays_as (Node.annotated w.a w.b) (node_of_lem sound r 7 e) _ less (λ bytes. refl))
+          (λ e. stays_as (Node.align w.a) (node_of_lem sound r 9 e) _ less (λ bytes. refl))))
           kind
 
       -- Union takes its second arm
       pub step-union : w.kind ≡ 8 → Goes T n f c W w.b c
       unfolding first_in
-      step-union e = stays_as (Node.union w.a w.b) (node_of sound r 8 e) _ (union-below sound r e) (λ bytes. refl)
+      step-union e = stays_as (Node.union w.a w.b) (node_of_lem sound r 8 e) _ (union-below sound r e) (λ bytes. refl)
 
       -- ---- a join, by the summary m of its first part
 
@@ -107,7 +107,7 @@ module _ {T M : List ℕ} {n c W N : ℕ} (h : Asked T M n c W N) where
         goes_second : (end : ℕ) → end ≤ 65536 → ((bytes : List ℕ) → first_in W (tree T bytes w.a) (mode_if f) c ≡ through end) → Goes T n f c W w.b end
         unfolding first_in
         goes_second end small came =
-            goes_as (Node.append w.a w.b) (node_of sound r 1 e) _ end less.1 small
+            goes_as (Node.append w.a w.b) (node_of_lem sound r 1 e) _ end less.1 small
             (λ bytes. ap (λ v. then_meets v (λ c. first_in W (tree T bytes w.b) (mode_if f) c)) (sym (came bytes)))
 
         pub step-bare : m ≡ 0 → Goes T n f c W w.b c
@@ -122,26 +122,26 @@ module _ {T M : List ℕ} {n c W N : ℕ} (h : Asked T M n c W N) where
         pub step_past : (m ≡ 0 → ⊥) → W < c + (m - 1) → Goes T n f c W w.a c
         unfolding first_in
         step_past some g =
-            stays_as (Node.append w.a w.b) (node_of sound r 1 e) _ less.0
+            stays_as (Node.append w.a w.b) (node_of_lem sound r 1 e) _ less.0
             (λ bytes. sym (came-past W h.width _ (comes bytes) (λ z. some (sym (word-is bytes) ∙ z)) (rw (word-is bytes) g)))
 
     -- ---- by mode
 
     pub step-flat_alt-flat : w.kind ≡ 3 → Goes T n true c W w.b c
     unfolding first_in
-    step-flat_alt-flat e = stays_as true (Node.flat_alt w.a w.b) (node_of sound r 3 e) _ (flat_alt-below sound r e).1 (λ bytes. refl)
+    step-flat_alt-flat e = stays_as true (Node.flat_alt w.a w.b) (node_of_lem sound r 3 e) _ (flat_alt-below sound r e).1 (λ bytes. refl)
 
     pub step-flat_alt-broken : w.kind ≡ 3 → Goes T n false c W w.a c
     unfolding first_in
-    step-flat_alt-broken e = stays_as false (Node.flat_alt w.a w.b) (node_of sound r 3 e) _ (flat_alt-below sound r e).0 (λ bytes. refl)
+    step-flat_alt-broken e = stays_as false (Node.flat_alt w.a w.b) (node_of_lem sound r 3 e) _ (flat_alt-below sound r e).0 (λ bytes. refl)
 
     pub step-hardline-flat : w.kind ≡ 5 → Leads T n true c W (found (hardline_inside n c))
     unfolding first_in
-    step-hardline-flat e = leads_as true Node.hardline (node_of sound r 5 e) _ (λ bytes. refl)
+    step-hardline-flat e = leads_as true Node.hardline (node_of_lem sound r 5 e) _ (λ bytes. refl)
 
     pub step-hardline-broken : w.kind ≡ 5 → Leads T n false c W (found (hardline_after n))
     unfolding first_in
-    step-hardline-broken e = leads_as false Node.hardline (node_of sound r 5 e) _ (λ bytes. refl)
+    step-hardline-broken e = leads_as false Node.hardline (node_of_lem sound r 5 e) _ (λ bytes. refl)
 
 -- ---- from step to step
 

@@ -3,101 +3,72 @@
 use native.Mathlib.Omega.{arith}
 use Rattle.summary.proofs.Arms.{append-below, text-columns}
 use Rattle.summary.proofs.Steps.{sound, asked-words, asked-place, asked-small, step-nil, step-bare, step_fits, step_past, step_one, step-flat_alt-flat, step-flat_alt-broken, step-hardline-flat, step-hardline-broken, step-text, step-text-past, step-union, step-fail}
-use Rattle.summary.proofs.step_down.Reads as reads
-use Rattle.summary.proofs.step_down.Lts as lts
-use Rattle.summary.proofs.summary_at.Reads as summary-at-reads
-use Rattle.summary.proofs.words_at.Reads as words-at-reads
 use Rattle.summary.proofs.step_down.Goals as goal
-
--- what the functions called ask and promise
-abbrev claims : lts.Claims
-claims = (words-at-reads.Asked, words-at-reads.Learnt, summary-at-reads.Asked, summary-at-reads.Learnt)
-
--- the call's start, from where the node's words are read
-abbrev start : lts.After-words-at claims reads.Pre reads.Post → lts.Start claims reads.Pre reads.Post
-start read = read.before.before.before
 
 pub words_at-w-requires : goal.words_at-w-requires
 words_at-w-requires c = asked-words c.requires
 
 pub summary_at-first-requires : goal.summary_at-first-requires
 summary_at-first-requires c =
-    let s = start c in
-    asked-place s.pre _ (append-below (sound s.pre) c.words_at-w.ensures c.in-1.is).0
+    asked-place c.requires _ (append-below (sound c.requires) c.words_at-w.ensures c.in-1.is).0
 
 pub returns-then-first-eq0 : goal.returns-then-first-eq0
 returns-then-first-eq0 c =
-    let s = start c in
-    step-bare s.pre c.words_at-w.ensures s.args.flat c.in-1.is _ c.summary_at-first.ensures c.if-first-eq0.true
+    step-bare c.requires c.words_at-w.ensures c.args.flat c.in-1.is _ c.summary_at-first.ensures c.if-first-eq0.true
 
 pub overflow_add-end : goal.overflow_add-end
 overflow_add-end c =
-    let s = start c in
-    let small = asked-small s.pre _ s.args.flat _ (append-below (sound s.pre) c.words_at-w.ensures c.in-1.is).0 c.summary_at-first.ensures in
-    omega (arith, s.pre.column, small)
+    let small = asked-small c.requires _ c.args.flat _ (append-below (sound c.requires) c.words_at-w.ensures c.in-1.is).0 c.summary_at-first.ensures in
+    omega (arith, c.requires.column, small)
 
 pub overflow_add-end-in-6 : goal.overflow_add-end-in-6
 overflow_add-end-in-6 c =
-    let s = start c in
-    omega (arith, s.pre.column, text-columns (sound s.pre) c.words_at-w.ensures c.in-6.is)
+    omega (arith, c.requires.column, text-columns (sound c.requires) c.words_at-w.ensures c.in-6.is)
 
 pub returns-in-0 : goal.returns-in-0
 returns-in-0 c =
-    let s = start c in
-    step-nil s.pre c.words_at-w.ensures s.args.flat c.in-0.is
+    step-nil c.requires c.words_at-w.ensures c.args.flat c.in-0.is
 
 pub returns-then-end-width : goal.returns-then-end-width
 returns-then-end-width c =
-    let s = start c in
-    step_fits s.pre c.words_at-w.ensures s.args.flat c.in-1.is _ c.summary_at-first.ensures c.if-first-eq0.false c.if-end-width.true
+    step_fits c.requires c.words_at-w.ensures c.args.flat c.in-1.is _ c.summary_at-first.ensures c.if-first-eq0.false c.if-end-width.true
 
 pub returns-else-end-width : goal.returns-else-end-width
 returns-else-end-width c =
-    let s = start c in
-    step_past s.pre c.words_at-w.ensures s.args.flat c.in-1.is _ c.summary_at-first.ensures c.if-first-eq0.false c.if-end-width.false
+    step_past c.requires c.words_at-w.ensures c.args.flat c.in-1.is _ c.summary_at-first.ensures c.if-first-eq0.false c.if-end-width.false
 
 pub returns-in-2 : goal.returns-in-2
 returns-in-2 c =
-    let s = start c in
-    step_one s.pre c.words_at-w.ensures s.args.flat c.in-2.is
+    step_one c.requires c.words_at-w.ensures c.args.flat c.in-2.is
 
 pub returns-then-flat : goal.returns-then-flat
 returns-then-flat c =
-    let s = start c in
-    rw c.if-flat.true (step-flat_alt-flat s.pre c.words_at-w.ensures c.in-3.is)
+    rw c.if-flat.true (step-flat_alt-flat c.requires c.words_at-w.ensures c.in-3.is)
 
 pub returns-else-flat : goal.returns-else-flat
 returns-else-flat c =
-    let s = start c in
-    rw c.if-flat.false (step-flat_alt-broken s.pre c.words_at-w.ensures c.in-3.is)
+    rw c.if-flat.false (step-flat_alt-broken c.requires c.words_at-w.ensures c.in-3.is)
 
 pub returns-then-flat-2 : goal.returns-then-flat-2
 returns-then-flat-2 c =
-    let s = start c in
-    rw c.if-flat-2.true (step-hardline-flat s.pre c.words_at-w.ensures c.in-5.is)
+    rw c.if-flat-2.true (step-hardline-flat c.requires c.words_at-w.ensures c.in-5.is)
 
 pub returns-else-flat-2 : goal.returns-else-flat-2
 returns-else-flat-2 c =
-    let s = start c in
-    rw c.if-flat-2.false (step-hardline-broken s.pre c.words_at-w.ensures c.in-5.is)
+    rw c.if-flat-2.false (step-hardline-broken c.requires c.words_at-w.ensures c.in-5.is)
 
 pub returns-then-end-width-2 : goal.returns-then-end-width-2
 returns-then-end-width-2 c =
-    let s = start c in
-    step-text s.pre c.words_at-w.ensures s.args.flat c.in-6.is c.if-end-width-2.true
+    step-text c.requires c.words_at-w.ensures c.args.flat c.in-6.is c.if-end-width-2.true
 
 pub returns-else-end-width-2 : goal.returns-else-end-width-2
 returns-else-end-width-2 c =
-    let s = start c in
-    step-text-past s.pre c.words_at-w.ensures s.args.flat c.in-6.is c.if-end-width-2.false
+    step-text-past c.requires c.words_at-w.ensures c.args.flat c.in-6.is c.if-end-width-2.false
 
 pub returns-in-8 : goal.returns-in-8
 returns-in-8 c =
-    let s = start c in
-    step-union s.pre c.words_at-w.ensures s.args.flat c.in-8.is
+    step-union c.requires c.words_at-w.ensures c.args.flat c.in-8.is
 
 pub returns-in_default : goal.returns-in_default
 returns-in_default c =
-    let s = start c in
-    let h = c.in_default.rest in
-    step-fail s.pre c.words_at-w.ensures s.args.flat h.0.0.0.0.0.0.1 h.0.0.0.0.0.1 h.0.0.0.0.1 h.0.0.0.1 h.0.0.1 h.0.1 h.1
+    step-fail c.requires c.words_at-w.ensures c.args.flat (omega arith) (omega arith) (omega arith) (omega arith) (omega arith) (omega arith) (omega arith)

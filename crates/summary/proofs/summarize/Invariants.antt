@@ -2,9 +2,6 @@
 use Prim.Native.Nat.{◌-◌, ◌/◌}
 use lib.ListN.{length}
 use Rattle.summary.proofs.Fill.{Filling}
-use Rattle.summary.proofs.summarize.Reads as reads
-use Rattle.summary.proofs.summarize.Lts as lts
-use Rattle.summary.proofs.node_summary.Reads as node-summary-reads
 use Rattle.summary.proofs.summarize.Given as goal
 
 abbrev pub invariant-loop-n : goal.invariant-loop-n
