@@ -1,0 +1,17 @@
+-- `layout::layout` meets its contract: what was decided, with the buffers cleared past what is used.
+-- Assumes nothing.
+use Rattle.layout.proofs.Whole.{called}
+use Rattle.layout.proofs.layout.Goals as goal
+
+pub returns : goal.returns
+returns c =
+    let decided = c.decide-report in
+    called
+    decided.new.work
+    decided.ensures
+    decided.auto.out
+    decided.auto.events
+    decided.auto.work
+    c.zero_bytes_from.ensures
+    c.zero_words_from.ensures
+    c.clear_dirty_words.ensures
