@@ -33,3 +33,6 @@ returns c =
     refl
     (ended_some d c.args.line.now c.args.from c.trimmed-end.result c.skip-from.result c.trimmed-end.ensures c.skip-from.ensures (omega arith))
     (c.remarked.ensures d s i)
+
+pub slice_bounds-remarked-end : goal.slice_bounds-remarked-end
+slice_bounds-remarked-end c = omega (arith, trim-within c.args.line.now, c.trimmed-end.ensures)
