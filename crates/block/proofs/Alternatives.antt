@@ -10,7 +10,7 @@ use lib.ListN.{length, take, drop}
 use lib.Dec.{leb}
 use borrow.Author.Tests.{ltb-true, leb-true}
 use Rattle.choice.specs.Pick.{pick}
-use Rattle.table.specs.Document.{Doc, nil, flat_alt, union, fail}
+use Rattle.table.specs.Document.{Doc, flat_alt, union}
 use Rattle.choice.proofs.Tests.{and-true}
 use Rattle.build.specs.declared.Counts.{Counts}
 use Rattle.build.specs.declared.Why.TheVariants.{Sizes}
@@ -97,7 +97,8 @@ module _ (b : Block) (sh : Shared) (prefixes suffixes : List ℕ) (nests : List 
       let other = alternative-makes c h l k j (suc split) in
       let joined = after other (meaning (ap₂ union (still c other n x) other.unfolds) (union-makes other.clean n _ (there other x) other.present)) in
       let rest =
-      unions-makes joined.clean (stand_still c joined h) (there joined l) (below_still joined prefixes k) (below_still joined suffixes j) _ split joined.present in
+      let more = alternative s b sh prefixes suffixes nests (suc split) in
+      unions-makes {s = (parts.union more.draft n more.node).draft} joined.clean (stand_still c joined h) (there joined l) (below_still joined prefixes k) (below_still joined suffixes j) _ split joined.present in
       let body_is = still c joined b.body.0 l in
       let before = docs_still c joined prefixes k in
       let behind = docs_still c joined suffixes j in

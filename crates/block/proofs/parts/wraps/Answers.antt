@@ -1,0 +1,60 @@
+use mathlib.Core.Path.{◌∙◌}
+use native.Mathlib.Omega.{arith}
+use Rattle.build.proofs.Stand.{same-words}
+use Rattle.block.proofs.Loops.{wrap-start, wrap_asks, wrap-stop, wrap-next, wrap-end}
+use Rattle.block.proofs.parts.wraps.Goals as goal
+
+pub loop-i-init : goal.loop-i-init
+loop-i-init c =
+    let args = c.args in
+    wrap-start c.requires.0 c.requires.1 args.n c.requires.2 args.prefixes.now args.nests.now c.requires.3 c.requires.4
+
+pub overflow_sub-i : goal.overflow_sub-i
+overflow_sub-i c = omega (arith, c.loop-i-test.true)
+
+pub offset_bounds-prefixes-i : goal.offset_bounds-prefixes-i
+offset_bounds-prefixes-i c =
+    omega (arith, c.loop-i-test.true, c.loop-i.invariant.inside, c.well_formed)
+
+pub bounds-prefixes-i : goal.bounds-prefixes-i
+bounds-prefixes-i c =
+    omega (arith, c.loop-i-test.true, c.loop-i.invariant.inside)
+
+pub bounds-nests-i : goal.bounds-nests-i
+bounds-nests-i c =
+    omega (arith, c.loop-i-test.true, c.loop-i.invariant.inside, c.requires.4)
+
+pub wrap-made-requires : goal.wrap-made-requires
+wrap-made-requires c =
+    let args = c.args in
+    wrap_asks c.requires.0 c.requires.1 args.n c.requires.2 args.prefixes.now args.nests.now c.requires.3 c.requires.4
+    c.loop-i-test.true c.loop-i.invariant
+
+pub shape_of-table-in_default : goal.shape_of-table-in_default
+shape_of-table-in_default c =
+    c.wrap-made.auto.table ∙ same-words c.loop-i.invariant.place.stands
+
+pub returns-in_default : goal.returns-in_default
+returns-in_default c =
+    let args = c.args in
+    wrap-stop c.requires.0 c.requires.1 args.n c.requires.2 args.prefixes.now args.nests.now c.requires.3 c.requires.4
+    c.loop-i-test.true c.loop-i.invariant c.wrap-made.ensures c.in_default.is
+
+pub loop-i-smaller : goal.loop-i-smaller
+loop-i-smaller c =
+    omega (arith, c.loop-i-test.true)
+
+pub loop-i-preserved : goal.loop-i-preserved
+loop-i-preserved c =
+    let args = c.args in
+    wrap-next c.requires.0 c.requires.1 args.n c.requires.2 args.prefixes.now args.nests.now c.requires.3 c.requires.4
+    c.loop-i-test.true c.loop-i.invariant c.wrap-made.ensures c.in-Node.is
+
+pub shape_of-table : goal.shape_of-table
+shape_of-table c = same-words c.loop-i.invariant.place.stands
+
+pub returns : goal.returns
+returns c =
+    let args = c.args in
+    wrap-end c.requires.0 c.requires.1 args.n c.requires.2 args.prefixes.now args.nests.now c.requires.3 c.requires.4
+    c.loop-i-test.false c.loop-i.invariant

@@ -1,0 +1,57 @@
+use mathlib.Core.Path.{◌∙◌}
+use native.Mathlib.Omega.{arith}
+use Rattle.build.proofs.Stand.{same-words}
+use Rattle.block.proofs.Loops.{left-start, left_asks, left_stop₁, left_stop₂, left-next, left_end}
+use Rattle.block.proofs.unions.Goals as goal
+
+pub loop-split-init : goal.loop-split-init
+loop-split-init c =
+    let args = c.args in
+    left-start c.requires.0 c.requires.1 args.nests.now args.n args.split c.requires.2.some c.requires.3
+
+pub alternative-made-requires : goal.alternative-made-requires
+alternative-made-requires c =
+    let args = c.args in
+    left_asks c.requires.0 c.requires.1 args.nests.now args.n args.split c.loop-split-test.true c.loop-split.invariant c.requires.2
+
+pub shape_of-table-in_default : goal.shape_of-table-in_default
+shape_of-table-in_default c =
+    c.alternative-made.auto.table ∙ same-words c.loop-split.invariant.place.stands
+
+pub returns-in_default : goal.returns-in_default
+returns-in_default c =
+    let args = c.args in
+    left_stop₁ c.requires.0 c.requires.1 args.nests.now args.n args.split c.loop-split-test.true c.loop-split.invariant
+    c.alternative-made.ensures c.in_default.is
+
+pub shape_of-table-in_default-joined : goal.shape_of-table-in_default-joined
+shape_of-table-in_default-joined c =
+    c.union-joined.auto.table ∙ c.alternative-made.auto.table ∙ same-words c.loop-split.invariant.place.stands
+
+pub returns-in_default-joined : goal.returns-in_default-joined
+returns-in_default-joined c =
+    let args = c.args in
+    left_stop₂ c.requires.0 c.requires.1 args.nests.now args.n args.split c.loop-split-test.true c.loop-split.invariant
+    c.alternative-made.ensures c.in-Node.is c.union-joined.ensures c.in_default-joined.is
+
+pub overflow_sub-split : goal.overflow_sub-split
+overflow_sub-split c =
+    omega (arith, c.loop-split-test.true)
+
+pub loop-split-smaller : goal.loop-split-smaller
+loop-split-smaller c =
+    omega (arith, c.loop-split-test.true)
+
+pub loop-split-preserved : goal.loop-split-preserved
+loop-split-preserved c =
+    let args = c.args in
+    left-next c.requires.0 c.requires.1 args.nests.now args.n args.split c.loop-split-test.true c.loop-split.invariant
+    c.alternative-made.ensures c.in-Node.is c.union-joined.ensures c.in-Node-joined.is
+
+pub shape_of-table : goal.shape_of-table
+shape_of-table c = same-words c.loop-split.invariant.place.stands
+
+pub returns : goal.returns
+returns c =
+    let args = c.args in
+    left_end c.requires.0 c.requires.1 args.nests.now args.n args.split c.loop-split-test.false c.loop-split.invariant
