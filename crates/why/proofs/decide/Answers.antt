@@ -1,0 +1,38 @@
+-- `why::decide` meets its contract: the sizes, then the table's fault, then the run up to the visit.
+-- Assumes nothing.
+use mathlib.Core.Path.{◌≡◌, sym, ap, ◌∙◌}
+use mathlib.Core.Bool.{true}
+use Rattle.table.specs.Fault.{check}
+use Rattle.rules.specs.Call.{buffers_right}
+use Rattle.rules.specs.Why.{why_refused}
+use Rattle.layout.proofs.Whole.{Lent, asks, start_of}
+use Rattle.why.proofs.Asked.{sizes-why, fault-why, run-why}
+use Rattle.why.proofs.decide.Goals as goal
+
+pub returns-then-not-buffers_right : goal.returns-then-not-buffers_right
+returns-then-not-buffers_right c =
+    let l : Lent = record { table = c.args.table.now; text = c.args.text.now; width = c.args.width; limit = c.args.limit; out = c.args.out.now; noted = c.args.events.now; area = c.args.work.now } in
+    sym (sizes-why (asks l) _ (sym c.buffers_right.ensures ∙ c.if-not-buffers_right.true))
+
+pub returns-then-fault-ne0 : goal.returns-then-fault-ne0
+returns-then-fault-ne0 c =
+    let l : Lent = record { table = c.args.table.now; text = c.args.text.now; width = c.args.width; limit = c.args.limit; out = c.args.out.now; noted = c.args.events.now; area = c.args.work.now } in
+    -- past the first test the sizes are right
+    let right : buffers_right (asks l) ≡ true = sym c.buffers_right.ensures ∙ c.if-not-buffers_right.false in
+    let same = c.validate-fault.ensures.0 in
+    ap why_refused same ∙ sym (fault-why (asks l) _ right (λ z. c.if-fault-ne0.true (same ∙ z)))
+
+pub ask-requires : goal.ask-requires
+ask-requires c =
+    let l : Lent = record { table = c.args.table.now; text = c.args.text.now; width = c.args.width; limit = c.args.limit; out = c.args.out.now; noted = c.args.events.now; area = c.args.work.now } in
+    let right : buffers_right (asks l) ≡ true = sym c.buffers_right.ensures ∙ c.if-not-buffers_right.false in
+    -- past the second the table has no fault
+    let sound : (check l.table l.text).answer ≡ 0 = sym c.validate-fault.ensures.0 ∙ c.if-fault-ne0.false in
+    start_of l right sound
+
+pub returns : goal.returns
+returns c =
+    let l : Lent = record { table = c.args.table.now; text = c.args.text.now; width = c.args.width; limit = c.args.limit; out = c.args.out.now; noted = c.args.events.now; area = c.args.work.now } in
+    let right : buffers_right (asks l) ≡ true = sym c.buffers_right.ensures ∙ c.if-not-buffers_right.false in
+    let sound : (check l.table l.text).answer ≡ 0 = sym c.validate-fault.ensures.0 ∙ c.if-fault-ne0.false in
+    c.ask.ensures ∙ sym (run-why (asks l) _ right sound)
