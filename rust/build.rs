@@ -1,4 +1,4 @@
-//! Links the archive that `rt staticlib pursegable` writes; `PURSEGABLE_LIB` names another folder to find it in, such as the `lib` of a
+//! Links the archive that `tools/archive` writes; `PURSEGABLE_LIB` names another folder to find it in, such as the `lib` of a
 //! prefix that `tools/install` filled.
 
 use std::path::PathBuf;
@@ -13,7 +13,7 @@ fn main() {
     if !archive.is_file() {
         eprintln!("there is no {}", archive.display());
         eprintln!(
-            "`rt staticlib pursegable` proves the library and writes it; PURSEGABLE_LIB names another folder that has it"
+            "`tools/archive` proves the library and writes it; PURSEGABLE_LIB names another folder that has it"
         );
         process::exit(1);
     }

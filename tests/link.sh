@@ -3,25 +3,25 @@
 # and that it keeps no state; tests/cases.txt from C, and under valgrind; the stack of each call; the example, from the source and
 # as installed; the wrapper's tests and examples.
 #
-# The archive is PURSEGABLE_ARCHIVE, else what `rt staticlib pursegable` proves and writes. Needs gcc, cargo and valgrind; says so and
+# The archive is PURSEGABLE_ARCHIVE, else what tools/archive proves and writes. Needs gcc, cargo and valgrind; says so and
 # goes on where g++, pkg-config or rustfmt is missing. Prints what each checked; the exit status is 0 only if all of it was right.
 set -eu
 cd "$(dirname "$0")/.."
-built=$PWD/target/link
-mkdir -p "$built"
-if [ -z "${PURSEGABLE_ARCHIVE:-}" ]; then
-    rt staticlib pursegable >"$built/staticlib.log" 2>&1 || { cat "$built/staticlib.log"; echo "link.sh: the library is not proved"; exit 1; }
-    PURSEGABLE_ARCHIVE=target/staticlib/libpursegable.a
-fi
-PURSEGABLE_ARCHIVE=$(cd "$(dirname "$PURSEGABLE_ARCHIVE")" && pwd)/$(basename "$PURSEGABLE_ARCHIVE")
-export PURSEGABLE_ARCHIVE
-strict="-O2 -Wall -Wextra -pedantic -Werror"
-
 # wrong WHAT: ends with it.
 wrong() {
     echo "link.sh: $1"
     exit 1
 }
+
+built=$PWD/target/link
+mkdir -p "$built"
+if [ -z "${PURSEGABLE_ARCHIVE:-}" ]; then
+    tools/archive || wrong "there is no archive"
+    PURSEGABLE_ARCHIVE=target/staticlib/libpursegable.a
+fi
+PURSEGABLE_ARCHIVE=$(cd "$(dirname "$PURSEGABLE_ARCHIVE")" && pwd)/$(basename "$PURSEGABLE_ARCHIVE")
+export PURSEGABLE_ARCHIVE
+strict="-O2 -Wall -Wextra -pedantic -Werror"
 
 at_hand() {
     command -v "$1" >/dev/null || { echo "link.sh: $1 is missing, so this is left out: $2"; return 1; }
