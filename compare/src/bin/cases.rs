@@ -37,9 +37,9 @@ fn head(count: usize, seed: u64) -> String {
     format!(
         "-- {count} random calls with the answers of the interpreter in compare/src/model.rs, computed here by the definitions.
 -- Made by `compare/run cases count={count} seed={seed}`; not edited by hand. Assumes nothing.
-use mathlib.Core.List.{{List, [], _∷_}}
+use mathlib.Core.List.{{List, [], ◌∷◌}}
 use lib.Dec.{{T}}
-use Rattle·rules·proofs.proofs.Case.{{Case, case, every}}
+use Rattle.rules.proofs.Case.{{Case, case, every}}
 "
     )
 }
