@@ -1,7 +1,5 @@
--- Laws that the walks cite.
+-- Laws of event records that the proofs cite, and the demands of the call over records.
 pub mod Filled
-pub mod Local
-pub mod Steps
 pub mod Published
 pub mod Staging
 pub mod Demands

@@ -14,7 +14,6 @@ use Rattle.rules.proofs.Answers.{answered}
 use Rattle.layout.specs.declared.Report.{Report}
 use Rattle.layout.specs.Called.{held}
 use Rattle.layout.specs.Called as words
-use Rattle.events.specs.declared.Event.{Event}
 use Rattle.events.specs.Records.{published}
 use Rattle.events.specs.Called.{asked, as_records, records_of, Called}
 use Rattle.events.proofs.Published.{published-held}

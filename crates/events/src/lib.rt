@@ -1,6 +1,6 @@
 // Event records: a lent slice of structs, each an offset, an open-or-close mark (1 or 0) and a label.
 //
-// The engine notes its events as words; the functions here, proved by walks of their code, are all that write records.
+// The engine notes its events as words; the functions here are all that write records.
 // A record's size stands in one place, `rules::EVENT_WORDS` with `event_words` of rules' specs. A field more is that number, a field of `Event`, a
 // line of `none`, `clear` and `record_at`, and one of `none`, `event_at` and `record_of` in specs/.
 
