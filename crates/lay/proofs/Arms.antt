@@ -2,7 +2,7 @@
 -- given up, an annotation, a Nest.
 -- Assumes nothing.
 use mathlib.Core.Path.{◌≡◌, refl, sym, ap, ◌∙◌}
-use Prim.Native.Nat.{ℕ, zero, suc, ◌+◌, ◌-◌, ◌*◌, ◌/◌, ◌≤◌, ◌<◌}
+use Prim.Native.Nat.{ℕ, zero, suc, ◌+◌, ◌-◌, ◌≤◌, ◌<◌}
 use native.Mathlib.Omega.{arith}
 use native.Mathlib.Nat.{zero-add, suc-add}
 use mathlib.Core.Bool.{Bool, true, false, ◌||◌}
@@ -10,7 +10,6 @@ use mathlib.Core.List.{List, [], ◌∷◌}
 use lib.ListN.{length}
 use lib.Dec.{ltb}
 use borrow.Author.Tests.{lt-ltb, le-ltb}
-use Rattle.rules.specs.Call.{event_words}
 use Rattle.table.specs.Node.{way_of}
 use Rattle.table.specs.declared.NodeNo.{NodeNo}
 use Rattle.rules.specs.Layout.{marked, nested}
@@ -26,14 +25,14 @@ use Rattle.page.specs.declared.Put.TheVariants.{On, Full}
 use Rattle.page.proofs.Events.{length-events}
 use Rattle.page.proofs.Pages.{taken_is, written-full-says, written-on-says, noted-full-says, noted-on-says, put_back}
 use Rattle.waiting.specs.Area.{tag_at, number_at, indent_at, mode_at, due_of, due_at, saved_words_at}
-use Rattle.waiting.specs.Stack.{mode_of, flag_of, saved_of, saved_at, entry_at, top, stack_of, Nearest}
+use Rattle.waiting.specs.Stack.{mode_of, flag_of, saved_of, saved_at, entry_at, stack_of, Nearest}
 use Rattle.waiting.specs.declared.Due.{Due as DueNode}
 use Rattle.waiting.specs.declared.Saved.{Saved as SavedWords}
 use Rattle.waiting.proofs.Laws.{flat_mode, trial-top, from-give_up}
 use Rattle.fitting.specs.Fitting.{Fitted}
 use Rattle.fitting.specs.declared.Fit.{Fit}
 use Rattle.fitting.specs.declared.Fit.TheVariants.{Yes, No, Due}
-use Rattle.lay.specs.Turning.{Turning, Waits, Kept, Restoring, Wrote, Annotated, restored_of}
+use Rattle.lay.specs.Turning.{Turning, Kept, Restoring, Wrote, Annotated, restored_of}
 use Rattle.lay.specs.declared.State.{State}
 use Rattle.lay.specs.declared.Turn.TheVariants.{Go, Done, Stop}
 

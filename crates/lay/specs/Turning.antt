@@ -1,8 +1,7 @@
 -- How a turn of the code is read, and what the functions of a turn promise: where they lead is where the step function leads.
-use Rattle.std.specs.Prelude.{◌≡◌, ℕ, ◌*◌, ◌/◌, Bool, List, ◌∷◌, length}
+use Rattle.std.specs.Prelude.{◌≡◌, ℕ, ◌/◌, Bool, List, ◌∷◌, length}
 use Rattle.rules.specs.Call.{event_words}
 use Rattle.rules.specs.Layout.{Limits, Page}
-use Rattle.machine.specs.Waiting.{Entry}
 use Rattle.machine.specs.Turn.{Turned, on, stop, put}
 use Rattle.machine.specs.Well.{Stacked}
 use Rattle.page.specs.Reading.{page_of, Within}

@@ -1,5 +1,5 @@
 -- What the functions promise: the whole answer, by the rules' page, and that what was on the page before is kept.
-use Rattle.std.specs.Prelude.{◌≡◌, ℕ, ◌*◌, ◌/◌, ◌≤◌, List, length, take, leb, ltb}
+use Rattle.std.specs.Prelude.{◌≡◌, ℕ, ◌/◌, List, length, take, leb, ltb}
 use Rattle.choice.specs.Pick.{pick}
 use Rattle.rules.specs.Call.{event_words}
 use Rattle.rules.specs.Layout.{taken}

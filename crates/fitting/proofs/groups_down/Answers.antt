@@ -1,5 +1,4 @@
 use native.Mathlib.Omega.{arith}
-use Prim.Native.Nat.{◌-◌}
 use Rattle.fitting.proofs.Row.{row-start, row_on, child-below}
 use Rattle.fitting.proofs.groups_down.Goals as goal
 

@@ -1,5 +1,4 @@
 use mathlib.Core.Bool.{true≢false, false≢true}
-use mathlib.Core.Logic.{⊎_elim}
 use mathlib.Core.Path.{sym, ◌∙◌}
 use native.Mathlib.Omega.{arith}
 use Rattle.fitting.proofs.Walk.{walk_start, count_small, area-kept, height-small, visit_asks, walk-due, walk_down, walk-done, walk_same, walk_yes, walk_no, walk_pop, walk_end, walk-next, walk_fitted}
@@ -80,11 +79,11 @@ returns-then-fits c =
     let long = c.look.auto.work in
     walk_fitted here.start.deep (walk_same _ _ here c.if-steps-eq0.false step long)
     (elim c.match-look.branch [
-      in-Fits w ↦ walk_yes _ _ here c.if-steps-eq0.false step long w.in-Fits.is
-    | in-Wide w ↦ absurd (false≢true (sym w.fits-is ∙ c.if-fits.true))
-    | in-Done+then-count-eq0+then-next-eq0 w ↦
-      let past = walk-done _ _ here c.if-steps-eq0.false step long _ w.in-Done.is in
-      walk_end c.waiting.mode.0 _ w.if-count-eq0.true past w.nearest-next.ensures w.if-next-eq0.true
+      | in-Fits w ↦ walk_yes _ _ here c.if-steps-eq0.false step long w.in-Fits.is
+      | in-Wide w ↦ absurd (false≢true (sym w.fits-is ∙ c.if-fits.true))
+      | in-Done+then-count-eq0+then-next-eq0 w ↦
+          let past = walk-done _ _ here c.if-steps-eq0.false step long _ w.in-Done.is in
+          walk_end c.waiting.mode.0 _ w.if-count-eq0.true past w.nearest-next.ensures w.if-next-eq0.true
     ])
 
 pub shape_of-work-else-fits : goal.shape_of-work-else-fits
@@ -99,7 +98,7 @@ returns-else-fits c =
     let long = c.look.auto.work in
     walk_fitted here.start.deep (walk_same _ _ here c.if-steps-eq0.false step long)
     (elim c.match-look.branch [
-      in-Fits w ↦ absurd (true≢false (sym w.fits-is ∙ c.if-fits.false))
-    | in-Wide w ↦ walk_no _ _ here c.if-steps-eq0.false step long w.in-Wide.is
-    | in-Done+then-count-eq0+then-next-eq0 w ↦ absurd (true≢false (sym w.fits-is ∙ c.if-fits.false))
+      | in-Fits w ↦ absurd (true≢false (sym w.fits-is ∙ c.if-fits.false))
+      | in-Wide w ↦ walk_no _ _ here c.if-steps-eq0.false step long w.in-Wide.is
+      | in-Done+then-count-eq0+then-next-eq0 w ↦ absurd (true≢false (sym w.fits-is ∙ c.if-fits.false))
     ])
