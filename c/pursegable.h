@@ -4,7 +4,7 @@
  * layout, sheet and label; why a group broke; the constructors; the block layouts. tests/example.c is the README's example. docs/FROM-PRETTY.md says
  * what each function of the Rust crate pretty is here.
  *
- * How to link. `rt staticlib pursegable` proves the library and writes target/staticlib/libpursegable.a, for x86-64; it needs
+ * How to link. `tools/archive` proves the library and writes target/staticlib/libpursegable.a, for x86-64; it needs
  * memcpy and memset of the C library, and nothing else. Beside the source, or installed by `tools/install PREFIX`:
  *     cc -Ic program.c target/staticlib/libpursegable.a
  *     cc program.c $(pkg-config --cflags --libs pursegable)
