@@ -4,7 +4,7 @@
  * layout, sheet and label; why a group broke; the constructors; the block layouts. tests/example.c is the README's example. docs/FROM-PRETTY.md says
  * what each function of the Rust crate pretty is here.
  *
- * How to link. `rt staticlib pursegable` proves the library and writes target/staticlib/libpursegable.a, for x86-64; it needs
+ * How to link. `tools/archive` proves the library and writes target/staticlib/libpursegable.a, for x86-64; it needs
  * memcpy and memset of the C library, and nothing else. Beside the source, or installed by `tools/install PREFIX`:
  *     cc -Ic program.c target/staticlib/libpursegable.a
  *     cc program.c $(pkg-config --cflags --libs pursegable)
@@ -123,7 +123,7 @@ static inline const char *pursegable_answer_text(uint32_t answer)
 #define PURSEGABLE_DEFAULT_STEPS 1000000 /* step limit of both */
 
 /* Bytes of stack that no call reaches: of layout, sheet and label, which keep the events' words there; of block; of every other
- * function, layout_words too. They took 49,712 bytes, 17,416 and 1,368 (layout_words 544), by tests/stack.c, which runs each call on a
+ * function, layout_words too. They took 49,873 bytes, 17,053 and 1,393 (layout_words 689), by tests/stack.c, which runs each call on a
  * stack that was painted before. */
 #define PURSEGABLE_STACK_LAYOUT 51200
 #define PURSEGABLE_STACK_BLOCK 20480

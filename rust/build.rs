@@ -12,9 +12,7 @@ fn main() {
     println!("cargo:rerun-if-changed={}", archive.display());
     if !archive.is_file() {
         eprintln!("there is no {}", archive.display());
-        eprintln!(
-            "`tools/archive` proves the library and writes it; PURSEGABLE_LIB names another folder that has it"
-        );
+        eprintln!("`tools/archive` proves the library and writes it; PURSEGABLE_LIB names another folder that has it");
         process::exit(1);
     }
     println!("cargo:rustc-link-search=native={}", folder.display());
