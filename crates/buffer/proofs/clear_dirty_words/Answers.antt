@@ -18,11 +18,13 @@ pub loop-at-preserved : goal.loop-at-preserved
 loop-at-preserved c =
     let L = c.loop-at in
     let d = c.args.words.now in
-    let h : L.at + 128 ≤ length d = omega arith in
-    (h, elim c.if-not-is_clean.branch [
-      then-not-is_clean w ↦ block_filled d L.at L.words L.invariant.1 128 h c.if-not-is_clean.words (w.words-is ∙ w.fill_words.ensures)
-    | else-not-is_clean w ↦ block_clean d L.at L.words L.invariant.1 128 h c.if-not-is_clean.words w.words-is (sym c.is_clean.ensures ∙ w.if-not-is_clean.false)
-    ])
+    let h : L.at + 128 ≤ length d = omega arith in (
+      h,
+      elim c.if-not-is_clean.branch [
+        | then-not-is_clean w ↦ block_filled d L.at L.words L.invariant.1 128 h c.if-not-is_clean.words (w.words-is ∙ w.fill_words.ensures)
+        | else-not-is_clean w ↦ block_clean d L.at L.words L.invariant.1 128 h c.if-not-is_clean.words w.words-is (sym c.is_clean.ensures ∙ w.if-not-is_clean.false)
+      ],
+    )
 
 pub returns : goal.returns
 returns c =

@@ -4,7 +4,6 @@ use mathlib.Core.Path.{◌≡◌, sym, ap, ◌∙◌}
 use mathlib.Core.Bool.{false≢true}
 use Prim.Native.Nat.{ℕ, ◌+◌, ◌-◌, ◌≤◌}
 use lib.ListN.{length, take, drop}
-use borrow.Author.Tests.{leb-true}
 use Rattle.buffer.specs.Utf8.{ascii}
 use Rattle.buffer.proofs.Octets.{ascii_part, ascii-short}
 use Rattle.buffer.proofs.utf8.plainly_below_128.Goals as goal
@@ -12,7 +11,7 @@ use Rattle.buffer.proofs.utf8.plainly_below_128.Goals as goal
 pub slice_bounds-below_128-end : goal.slice_bounds-below_128-end
 slice_bounds-below_128-end c =
     let a = c.args in
-    let room : 32 ≤ length a.text.now - a.at = leb-true _ _ c.if-text-at-ge-BLOCK.true-raw in
+    let room : 32 ≤ length a.text.now - a.at = omega arith in
     omega arith
 
 pub returns-then-plain : goal.returns-then-plain

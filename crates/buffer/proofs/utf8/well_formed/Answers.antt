@@ -4,7 +4,6 @@ use mathlib.Core.List.{[]}
 use Prim.Native.Nat.{◌+◌}
 use lib.ListN.{length, drop}
 use lib.Seq.{drop-length}
-use borrow.Author.Tests.{ltb-true}
 use Rattle.buffer.specs.Utf8.{well_formed, owed}
 use Rattle.buffer.specs.Reader.{ranges, goes_on}
 use Rattle.buffer.specs.declared.utf8.Next.{Next}
@@ -19,7 +18,7 @@ pub loop-i-preserved-then-bytes-i-lt128 : goal.loop-i-preserved-then-bytes-i-lt1
 loop-i-preserved-then-bytes-i-lt128 c =
     let L = c.loop-i in
     let bytes = c.args.bytes.now in
-    (omega arith, owed-low bytes L.i L.o.count L.o.low L.o.high (omega arith) c.if-o-eq0.true (ltb-true _ _ c.if-bytes-i-lt128.true-raw) ∙ L.invariant.1)
+    (omega arith, owed-low bytes L.i L.o.count L.o.low L.o.high (omega arith) c.if-o-eq0.true (omega arith) ∙ L.invariant.1)
 
 pub returns-in_default : goal.returns-in_default
 returns-in_default c =
