@@ -4,17 +4,19 @@
 
 #![tactic(auto)]
 
-use libc::{STDIN_FILENO, STDOUT_FILENO};
+use buffer::parts::{front, part_end};
+use std::io;
+use std::io::Read;
 
 // Runs every input.
-fn run_all(input: &[u8]) {
+fn run_all<P: Print>(input: &[u8], rt: &P) {
     let mut at = 0;
     while at < input.len() {
-        let end = buffer::parts::part_end(input, at, b'%');
+        let end = part_end(input, at, b'%');
         if input.len() <= end {
             return;
         }
-        strip::run(&input[at..end], STDOUT_FILENO, STDOUT_FILENO);
+        strip::run(&input[at..end], &mut io::writer(rt), &mut io::writer(rt));
         at = end + 1;
         if at < input.len() {
             at += 1;
@@ -22,8 +24,9 @@ fn run_all(input: &[u8]) {
     }
 }
 
-fn main() {
-    let mut space = io::large_buffer();
-    let n = io::read_full(STDIN_FILENO, &mut space);
-    run_all(&space[..n]);
+fn main(rt: HostRuntime) -> io::Result<()> {
+    let mut space = [0u8; 65536];
+    let n = io::copy(&mut rt.stdin().take(65536), &mut &mut space[..])? as usize;
+    run_all(front(&space, n), &rt);
+    Ok(())
 }

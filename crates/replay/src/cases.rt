@@ -3,28 +3,32 @@
 // A case is a line: answer and place, the table's words in decimal, the text bytes in hexadecimal, and a name, with `|` between. Written are
 // the answer and place that validation gives, the name and, where the line has others, what was wanted.
 use crate::lines::{narrow, numbers, past};
-use libc::STDOUT_FILENO;
+use std::io;
+use std::io::Write;
 use table::Fault;
 
 // Writes what was found and the case's name, and what was wanted where it is something else.
-fn report(found: Fault, answer: u32, place: u32, name: &[u8]) -> bool {
-    io::print_decimal(STDOUT_FILENO, found.answer as u64);
-    io::write_all(STDOUT_FILENO, b" ");
-    io::print_decimal(STDOUT_FILENO, found.place.0 as u64);
-    io::write_all(STDOUT_FILENO, name);
-    let right = (found.answer == answer) & (found.place.0 == place);
+fn report<W: Write>(
+    print: &mut W,
+    found: Fault,
+    answer: u32,
+    place: u32,
+    name: &[u8],
+) -> io::Result<bool> {
+    let found_answer = found.answer;
+    let found_place = found.place.0;
+    write!(print, "{found_answer} {found_place}")?;
+    print.write_all(name)?;
+    let right = (found_answer == answer) & (found_place == place);
     if !right {
-        io::write_all(STDOUT_FILENO, b": WRONG, wanted ");
-        io::print_decimal(STDOUT_FILENO, answer as u64);
-        io::write_all(STDOUT_FILENO, b" ");
-        io::print_decimal(STDOUT_FILENO, place as u64);
+        write!(print, ": WRONG, wanted {answer} {place}")?;
     }
-    io::write_all(STDOUT_FILENO, b"\n");
-    right
+    print.write_all(b"\n")?;
+    Ok(right)
 }
 
 // Replays one case: whether answer and place were as wanted.
-pub fn replay(line: &[u8]) -> bool {
+pub fn replay<W: Write>(print: &mut W, line: &[u8]) -> io::Result<bool> {
     let mut wanted = [0u32; 2];
     let head = numbers(line, 0, 10, &mut wanted);
     let mut words = [0u32; 4200];
@@ -37,6 +41,7 @@ pub fn replay(line: &[u8]) -> bool {
     narrow(&wide[..n], &mut text);
     let name = past(line, bytes.end);
     report(
+        print,
         table::validate(&words[..t], &text[..n]),
         wanted[0],
         wanted[1],

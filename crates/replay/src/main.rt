@@ -7,7 +7,8 @@
 #![tactic(auto)]
 
 use buffer::parts::{behind, front, line_end, part_end};
-use libc::STDOUT_FILENO;
+use std::io;
+use std::io::{Read, Write};
 
 mod cases;
 mod lines;
@@ -29,7 +30,7 @@ fn says(line: &[u8]) -> bool {
 }
 
 // Replays every case.
-fn replay_cases(input: &[u8]) -> Tally {
+fn replay_cases<W: Write>(print: &mut W, input: &[u8]) -> io::Result<Tally> {
     let mut cases: u32 = 0;
     let mut wrong: u32 = 0;
     let mut at = 0;
@@ -41,39 +42,39 @@ fn replay_cases(input: &[u8]) -> Tally {
             continue;
         }
         cases = std::num::wrapping_add_u32(cases, 1);
-        if !cases::replay(line) {
+        if !cases::replay(print, line)? {
             wrong = std::num::wrapping_add_u32(wrong, 1);
         }
     }
-    Tally { cases, wrong }
+    Ok(Tally { cases, wrong })
 }
 
 // Replays every run.
-fn replay_runs(input: &[u8]) {
+fn replay_runs<W: Write>(print: &mut W, input: &[u8]) -> io::Result<()> {
     let mut at = 0;
     while at < input.len() {
         let end = line_end(input, at);
         let line = &input[at..end];
         at = end + 1;
         if says(line) {
-            runs::replay(line);
+            runs::replay(print, line)?;
         }
     }
+    Ok(())
 }
 
 // Replays both lists.
-fn replay(input: &[u8]) {
+fn replay<W: Write>(print: &mut W, input: &[u8]) -> io::Result<()> {
     let bar = part_end(input, 0, b'%');
-    let tally = replay_cases(front(input, bar));
-    io::print_decimal(STDOUT_FILENO, tally.cases as u64);
-    io::write_all(STDOUT_FILENO, b" cases, ");
-    io::print_decimal(STDOUT_FILENO, tally.wrong as u64);
-    io::write_all(STDOUT_FILENO, b" wrong\n");
-    replay_runs(behind(input, bar));
+    let tally = replay_cases(print, front(input, bar))?;
+    let cases = tally.cases;
+    let wrong = tally.wrong;
+    writeln!(print, "{cases} cases, {wrong} wrong")?;
+    replay_runs(print, behind(input, bar))
 }
 
-fn main() {
+fn main(rt: HostRuntime) -> io::Result<()> {
     let mut space = [0u8; 262144];
-    let n = io::read_full(0, &mut space);
-    replay(&space[..n]);
+    let n = io::copy(&mut rt.stdin().take(262144), &mut &mut space[..])? as usize;
+    replay(&mut rt.stdout(), front(&space, n))
 }

@@ -7,8 +7,9 @@ ghost use Rattle.std.specs.Prelude.{◌≤◌};
 
 use crate::lines::{narrow, numbers, past};
 use layout::Report;
-use libc::STDOUT_FILENO;
 use rules::EVENT_WORDS;
+use std::io;
+use std::io::Write;
 
 // Room for some more event records than a call may be lent, in words.
 const SLOTS: usize = 4100;
@@ -22,9 +23,8 @@ fn least(a: usize, b: usize) -> usize
 }
 
 // Writes a number and a blank.
-fn write_number(n: u32) {
-    io::print_decimal(STDOUT_FILENO, n as u64);
-    io::write_all(STDOUT_FILENO, b" ");
+fn write_number<W: Write>(print: &mut W, n: u32) -> io::Result<()> {
+    write!(print, "{n} ")
 }
 
 fn as_word(b: u8) -> u32 {
@@ -44,13 +44,13 @@ fn widen(bytes: &[u8], wide: &mut [u32]) {
 }
 
 // Writes the words, and a bar.
-fn write_words(words: &[u32]) {
+fn write_words<W: Write>(print: &mut W, words: &[u32]) -> io::Result<()> {
     let mut i = 0;
     while i < words.len() {
-        write_number(words[i]);
+        write_number(print, words[i])?;
         i += 1;
     }
-    io::write_all(STDOUT_FILENO, b"| ");
+    print.write_all(b"| ")
 }
 
 // How many words are not zero, from `from` on.
@@ -67,25 +67,33 @@ fn soiled(words: &[u32], from: usize) -> u32 {
 }
 
 // Writes how a run ended and what its buffers hold, the output as words.
-fn report(r: Report, out: &[u32], events: &[u32], work: &[u32], name: &[u8]) {
+fn report<W: Write>(
+    print: &mut W,
+    r: Report,
+    out: &[u32],
+    events: &[u32],
+    work: &[u32],
+    name: &[u8],
+) -> io::Result<()> {
     let used = least(r.used as usize, out.len());
     let marked = least(r.events as usize * EVENT_WORDS, events.len());
-    write_number(r.answer);
-    write_number(r.place.0);
-    write_number(r.steps);
-    io::write_all(STDOUT_FILENO, b"| ");
-    write_words(&out[..used]);
-    write_words(&events[..marked]);
-    write_number(soiled(out, used));
-    write_number(soiled(events, marked));
-    write_number(soiled(work, 0));
-    io::write_all(STDOUT_FILENO, b"|");
-    io::write_all(STDOUT_FILENO, name);
-    io::write_all(STDOUT_FILENO, b"\n");
+    write_number(print, r.answer)?;
+    write_number(print, r.place.0)?;
+    write_number(print, r.steps)?;
+    print.write_all(b"| ")?;
+    write_words(print, &out[..used])?;
+    write_words(print, &events[..marked])?;
+    write_number(print, soiled(out, used))?;
+    write_number(print, soiled(events, marked))?;
+    write_number(print, soiled(work, 0))?;
+    print.write_all(b"|")?;
+    print.write_all(name)?;
+    print.write_all(b"\n")
 }
 
 // Lays a table out in these buffers.
-fn run(
+fn run<W: Write>(
+    print: &mut W,
     table: &[u32],
     text: &[u8],
     width: u32,
@@ -94,22 +102,32 @@ fn run(
     events: &mut [u32],
     work: &mut [u32],
     name: &[u8],
-) {
+) -> io::Result<()> {
     let r = layout::layout(table, text, width, limit, out, events, work);
     let mut wide = [0u32; 65600];
     widen(out, &mut wide);
     let room = least(out.len(), 65600);
-    report(r, &wide[..room], events, work, name);
+    report(print, r, &wide[..room], events, work, name)
 }
 
 // Lays a table out in soiled buffers of these sizes.
-fn lay_out(table: &[u32], text: &[u8], width: u32, limit: u32, room: u32, slots: u32, name: &[u8]) {
+fn lay_out<W: Write>(
+    print: &mut W,
+    table: &[u32],
+    text: &[u8],
+    width: u32,
+    limit: u32,
+    room: u32,
+    slots: u32,
+    name: &[u8],
+) -> io::Result<()> {
     let mut out = [90u8; 65600];
     let mut events = [1515870810u32; EVENTS];
     let mut work = [1515870810u32; 16384];
     let room = least(room as usize, 65600);
     let words = least(slots as usize, SLOTS) * EVENT_WORDS;
     run(
+        print,
         table,
         text,
         width,
@@ -118,11 +136,11 @@ fn lay_out(table: &[u32], text: &[u8], width: u32, limit: u32, room: u32, slots:
         &mut events[..words],
         &mut work,
         name,
-    );
+    )
 }
 
 // Replays one run.
-pub fn replay(line: &[u8]) {
+pub fn replay<W: Write>(print: &mut W, line: &[u8]) -> io::Result<()> {
     let mut words = [0u32; 4200];
     let table = numbers(line, 0, 10, &mut words);
     let mut wide = [0u32; 65600];
@@ -135,6 +153,7 @@ pub fn replay(line: &[u8]) {
     narrow(&wide[..n], &mut text);
     let name = past(line, asked.end);
     lay_out(
+        print,
         &words[..t],
         &text[..n],
         sizes[0],
@@ -142,5 +161,5 @@ pub fn replay(line: &[u8]) {
         sizes[2],
         sizes[3],
         &line[name..],
-    );
+    )
 }

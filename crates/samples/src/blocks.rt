@@ -1,7 +1,8 @@
 // The four layouts of one block: on one line, with the body on its own, and with one or two affixes on the first line.
 use block::Block;
 use build::{Counts, Made};
-use libc::STDOUT_FILENO;
+use std::io;
+use std::io::Write;
 use table::{Column, Indent, NodeNo};
 
 // A line, or a line end, and then the text.
@@ -96,17 +97,16 @@ fn built(table: &mut [u32], text: &mut [u8], hard: bool) -> Made {
 }
 
 // Builds the block, lays it out and writes it; what can't be built is said.
-fn sample(hard: bool, width: u32) {
+fn sample<W: Write>(print: &mut W, hard: bool, width: u32) -> io::Result<()> {
     let mut table = [0u32; 1024];
     let mut text = [0u8; 64];
     let made = built(&mut table, &mut text, hard);
     let Made::Node(_, n) = made else {
-        io::write_all(STDOUT_FILENO, b"refused\n");
-        return;
+        return print.write_all(b"refused\n");
     };
     let node = n.0 as usize;
     if 256 <= node {
-        return;
+        return Ok(());
     }
     let words = node * 4 + 4;
     let mut out = [0u8; 256];
@@ -123,16 +123,16 @@ fn sample(hard: bool, width: u32) {
     );
     let used = r.used as usize;
     if 256 < used {
-        return;
+        return Ok(());
     }
-    io::write_all(STDOUT_FILENO, &out[..used]);
-    io::write_all(STDOUT_FILENO, b"\n\n");
+    print.write_all(&out[..used])?;
+    print.write_all(b"\n\n")
 }
 
 // All four.
-pub fn blocks() {
-    sample(false, 35);
-    sample(false, 34);
-    sample(true, 34);
-    sample(false, 20);
+pub fn blocks<W: Write>(print: &mut W) -> io::Result<()> {
+    sample(print, false, 35)?;
+    sample(print, false, 34)?;
+    sample(print, true, 34)?;
+    sample(print, false, 20)
 }

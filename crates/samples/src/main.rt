@@ -3,12 +3,15 @@
 
 #![tactic(auto)]
 
+use std::io;
+
 mod blocks;
 mod example;
 mod shared;
 
-fn main() {
-    example::example();
-    blocks::blocks();
-    shared::shared();
+fn main(rt: HostRuntime) -> io::Result<()> {
+    let mut print = rt.stdout();
+    example::example(&mut print)?;
+    blocks::blocks(&mut print)?;
+    shared::shared(&mut print)
 }

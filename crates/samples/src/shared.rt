@@ -2,7 +2,8 @@
 // answers at once.
 ghost use Rattle.std.specs.Prelude.{◌≡◌, length};
 
-use libc::STDOUT_FILENO;
+use std::io;
+use std::io::Write;
 use summary::Reason;
 use why::Answer;
 
@@ -38,7 +39,7 @@ fn said(reason: Reason) -> bool {
 }
 
 // Builds the table, asks and writes the answer.
-pub fn shared() {
+pub fn shared<W: Write>(print: &mut W) -> io::Result<()> {
     let mut table = [0u32; WORDS];
     join(&mut table);
     table[4004] = table::GROUP;
@@ -48,9 +49,10 @@ pub fn shared() {
     let mut work = [0u32; 16384];
     let Answer::Told(reason) = why::why(&table, b"", 42, 1, 1, &mut out, &mut events, &mut work)
     else {
-        return;
+        return Ok(());
     };
     if said(reason) {
-        io::write_all(STDOUT_FILENO, b"flat: nothing was left\n");
+        return print.write_all(b"flat: nothing was left\n");
     }
+    Ok(())
 }

@@ -3,24 +3,33 @@
 
 #![tactic(auto)]
 
-use libc::{STDERR_FILENO, STDIN_FILENO, STDOUT_FILENO};
+use buffer::parts::front;
+use std::io;
+use std::io::{Read, Write};
 
-// Whether nothing is left to read: a read that failed ends `read_full` too, and what came before it is not the whole input.
-fn at_end(fd: i32) -> bool {
+// Whether nothing is left to read.
+fn at_end<R: Read>(from: &mut R) -> bool {
     let mut one = [0u8; 1];
-    libc::read(fd, &mut one) == 0
+    matches!(from.read(&mut one), Ok(0))
 }
 
-fn main() {
-    let mut space = io::large_buffer();
-    let n = io::read_full(STDIN_FILENO, &mut space);
+fn main(rt: HostRuntime) {
+    let mut from = rt.stdin();
+    let mut tell = rt.stderr();
+    let mut space = [0u8; 65536];
+    let read = io::copy(&mut from.by_ref().take(65536), &mut &mut space[..]);
+    let Ok(n) = read else {
+        let _ = tell.write_all(b"the input could not be read to its end\n");
+        return;
+    };
     if n == 65536 {
-        io::write_all(STDERR_FILENO, b"the input is longer than 65,535 bytes\n");
+        let _ = tell.write_all(b"the input is longer than 65,535 bytes\n");
         return;
     }
-    if !at_end(STDIN_FILENO) {
-        io::write_all(STDERR_FILENO, b"the input could not be read to its end\n");
+    if !at_end(&mut from) {
+        let _ = tell.write_all(b"the input could not be read to its end\n");
         return;
     }
-    strip::run(&space[..n], STDOUT_FILENO, STDERR_FILENO);
+    let n = n as usize;
+    strip::run(front(&space, n), &mut rt.stdout(), &mut tell);
 }

@@ -10,60 +10,67 @@ use chest::Built;
 use results::Fault;
 use results::input::Checked;
 use rules::EVENT_WORDS;
+use std::io::Write;
 
 mod marks;
 
 // Room for the most events that a call may have.
 const EVENTS: usize = 4096 * EVENT_WORDS;
 
+// Writes bytes; says whether all of them were written.
+fn wrote<W: Write>(to: &mut W, bytes: &[u8]) -> bool {
+    to.write_all(bytes).is_ok()
+}
+
 // ---- messages
 
 // Writes where a message belongs.
-fn tell_line(fd: i32, line: usize) {
-    io::write_all(fd, b"line ");
-    io::print_decimal(fd, line as u64);
-    io::write_all(fd, b": ");
+fn tell_line<W: Write>(tell: &mut W, line: usize) {
+    let _ = write!(tell, "line {line}: ");
 }
 
 // Writes what is wrong with a line.
-fn tell_fault(fd: i32, fault: Fault) -> bool {
+fn tell_fault<W: Write>(tell: &mut W, fault: Fault) -> bool {
     match fault {
-        Fault::TooLong => io::write_all(fd, b"it is longer than 200 bytes\n"),
-        Fault::NotUtf8 => io::write_all(fd, b"it is not UTF-8\n"),
-        Fault::Control => io::write_all(fd, b"it has a control character\n"),
-        Fault::NoForce => io::write_all(
-            fd,
+        Fault::TooLong => wrote(tell, b"it is longer than 200 bytes\n"),
+        Fault::NotUtf8 => wrote(tell, b"it is not UTF-8\n"),
+        Fault::Control => wrote(tell, b"it has a control character\n"),
+        Fault::NoForce => wrote(
+            tell,
             b"the force is missing (note;force;pluck point;remark)\n",
         ),
-        Fault::NoPluck => io::write_all(
-            fd,
+        Fault::NoPluck => wrote(
+            tell,
             b"the pluck point is missing (note;force;pluck point;remark)\n",
         ),
-        Fault::NoRemark => io::write_all(
-            fd,
+        Fault::NoRemark => wrote(
+            tell,
             b"the ; before the remark is missing (note;force;pluck point;remark)\n",
         ),
-        Fault::Note => io::write_all(
-            fd,
+        Fault::Note => wrote(
+            tell,
             b"the note must have 1 to 5 characters, not all of them blanks\n",
         ),
-        Fault::Force => io::write_all(fd, b"the force is not a whole number of grams, 0 to 9999\n"),
-        Fault::Pluck => io::write_all(
-            fd,
+        Fault::Force => wrote(
+            tell,
+            b"the force is not a whole number of grams, 0 to 9999\n",
+        ),
+        Fault::Pluck => wrote(
+            tell,
             b"the pluck point is not a number of millimetres like 1.2\n",
         ),
     }
 }
 
 // Writes why something doesn't fit, behind what it is.
-fn tell_full(fd: i32, why: Why) -> bool {
+fn tell_full<W: Write>(tell: &mut W, why: Why) -> bool {
     match why {
-        Why::Nodes => io::write_all(fd, b" does not fit in the table's 1,024 nodes\n"),
-        Why::Bytes => io::write_all(fd, b" does not fit in the 65,536 bytes of text\n"),
-        Why::Sizes => io::write_all(fd, b" does not fit: the constructors answer 1\n"),
-        Why::Operand => io::write_all(fd, b" does not fit: the constructors answer 11\n"),
-        Why::Amount => io::write_all(fd, b" does not fit: the constructors answer 3\n"),
-        Why::Text => io::write_all(fd, b" does not fit: the constructors answer 5\n"),
+        Why::Nodes => wrote(tell, b" does not fit in the table's 1,024 nodes\n"),
+        Why::Bytes => wrote(tell, b" does not fit in the 65,536 bytes of text\n"),
+        Why::Sizes => wrote(tell, b" does not fit: the constructors answer 1\n"),
+        Why::Operand => wrote(tell, b" does not fit: the constructors answer 11\n"),
+        Why::Amount => wrote(tell, b" does not fit: the constructors answer 3\n"),
+        Why::Text => wrote(tell, b" does not fit: the constructors answer 5\n"),
     }
 }
 
@@ -78,30 +85,30 @@ fn words_front(s: &[u32], n: usize) -> &[u32] {
 }
 
 // Writes a line's margin: `! ` where a mark is open.
-fn print_margin(fd: i32, marked: bool) -> bool {
+fn print_margin<W: Write>(print: &mut W, marked: bool) -> bool {
     if marked {
-        return io::write_all(fd, b"! ");
+        return wrote(print, b"! ");
     }
-    io::write_all(fd, b"  ")
+    wrote(print, b"  ")
 }
 
 // Prints one line with its margin; says whether all of it was written.
-fn print_line(fd: i32, line: &[u8], marked: bool) -> bool {
-    if !print_margin(fd, marked) {
+fn print_line<W: Write>(print: &mut W, line: &[u8], marked: bool) -> bool {
+    if !print_margin(print, marked) {
         return false;
     }
-    if !io::write_all(fd, line) {
+    if !wrote(print, line) {
         return false;
     }
-    io::write_all(fd, b"\n")
+    wrote(print, b"\n")
 }
 
 // Prints every line of the output with its margin, up to the first write that fails; says whether none did.
-fn print_all(fd: i32, out: &[u8], events: &[u32]) -> bool {
+fn print_all<W: Write>(print: &mut W, out: &[u8], events: &[u32]) -> bool {
     let mut at = 0;
     while at < out.len() {
         let end = line_end(out, at);
-        if !print_line(fd, &out[at..end], marks::marked(events, at)) {
+        if !print_line(print, &out[at..end], marks::marked(events, at)) {
             return false;
         }
         if out.len() <= end {
@@ -113,11 +120,16 @@ fn print_all(fd: i32, out: &[u8], events: &[u32]) -> bool {
 }
 
 // Prints the output, or tells that it is not whole: what was printed before a write failed can't be taken back.
-fn print_whole(out: &[u8], events: &[u32], print: i32, tell: i32) -> bool {
+fn print_whole<P: Write, T: Write>(
+    out: &[u8],
+    events: &[u32],
+    print: &mut P,
+    tell: &mut T,
+) -> bool {
     if print_all(print, out, events) {
         return true;
     }
-    io::write_all(
+    wrote(
         tell,
         b"the sheet could not be written whole: do not use what was printed\n",
     );
@@ -125,15 +137,14 @@ fn print_whole(out: &[u8], events: &[u32], print: i32, tell: i32) -> bool {
 }
 
 // Lays the sheet out and prints it, or says what the layout answered; gives whether it was printed whole.
-fn lay_out(table: &[u32], text: &[u8], print: i32, tell: i32) -> bool {
+fn lay_out<P: Write, T: Write>(table: &[u32], text: &[u8], print: &mut P, tell: &mut T) -> bool {
     let mut out = [0u8; 65536];
     let mut events = [0u32; EVENTS];
     let mut work = [0u32; 16384];
     let r = layout::sheet(table, text, &mut out, &mut events, &mut work);
     if r.answer != 0 {
-        io::write_all(tell, b"the layout answers ");
-        io::print_decimal(tell, r.answer as u64);
-        io::write_all(tell, b"\n");
+        let answer = r.answer;
+        let _ = writeln!(tell, "the layout answers {answer}");
         return false;
     }
     let used = r.used as usize;
@@ -155,10 +166,10 @@ fn unmarked(input: &[u8]) -> &[u8] {
 }
 
 // Checks the results, builds their sheet, lays it out and prints it; gives whether it was printed whole.
-pub fn run(input: &[u8], print: i32, tell: i32) -> bool {
+pub fn run<P: Write, T: Write>(input: &[u8], print: &mut P, tell: &mut T) -> bool {
     let input = unmarked(input);
     if input.len() == 0 {
-        io::write_all(tell, b"there is no input\n");
+        wrote(tell, b"there is no input\n");
         return false;
     }
     let checked = results::input::check(input);
@@ -173,13 +184,13 @@ pub fn run(input: &[u8], print: i32, tell: i32) -> bool {
     match built {
         Built::Full(line, why) => {
             tell_line(tell, line);
-            io::write_all(tell, b"this is the first line that");
+            wrote(tell, b"this is the first line that");
             tell_full(tell, why);
             false
         }
         Built::NoFooter(line, why) => {
             tell_line(tell, line);
-            io::write_all(tell, b"the footer after this last line");
+            wrote(tell, b"the footer after this last line");
             tell_full(tell, why);
             false
         }

@@ -2,7 +2,6 @@
 use native.Mathlib.Omega.{arith}
 use mathlib.Core.Path.{sym, ◌∙◌, subst, ap₂}
 use lib.Seq.{length-take-le}
-use borrow.Author.Tests.{not-true, not-false}
 use Rattle.results.specs.Numbers.{tenths_add, Small}
 use Rattle.results.proofs.Digits.{number_small}
 use Rattle.results.proofs.Saying.{tenths-short, tenths_long, tenths_no_point, tenths_are}
@@ -16,7 +15,7 @@ returns-then-n-gt4 c = tenths_long c.args.s.now c.if-n-gt4.true
 
 pub returns-then-not-is_point : goal.returns-then-not-is_point
 returns-then-not-is_point c =
-    tenths_no_point c.args.s.now (omega arith) (omega arith) (sym c.is_point.ensures ∙ not-true _ c.if-not-is_point.true-raw)
+    tenths_no_point c.args.s.now (omega arith) (omega arith) (sym c.is_point.ensures ∙ c.if-not-is_point.true)
 
 pub slice_bounds-number-end : goal.slice_bounds-number-end
 slice_bounds-number-end c = sym (length-take-le _ _ (omega arith))
@@ -28,4 +27,4 @@ pub returns : goal.returns
 returns c =
     c.tenths_add.ensures
     ∙ ap₂ tenths_add c.number.ensures c.number-2.ensures
-    ∙ tenths_are c.args.s.now (omega arith) (omega arith) (sym c.is_point.ensures ∙ not-false _ c.if-not-is_point.false-raw)
+    ∙ tenths_are c.args.s.now (omega arith) (omega arith) (sym c.is_point.ensures ∙ c.if-not-is_point.false)
