@@ -1,6 +1,5 @@
 use borrow.Author.Rules.{rules}
 use native.Mathlib.Omega.{arith}
-use Prim.Native.Nat.{◌-◌}
 use Rattle.chest.proofs.Sheets.{count_next, none_lined, one_lined, all_lined}
 use Rattle.chest.proofs.add_lines.Goals as goal
 

@@ -1,6 +1,5 @@
 use borrow.Author.Rules.{rules}
 use native.Mathlib.Omega.{arith}
-use Prim.Native.Nat.{◌-◌}
 use Rattle.buffer.specs.Parts.{lines}
 use Rattle.results.specs.Standing.{out_notes}
 use Rattle.results.proofs.Walking.{first_of}

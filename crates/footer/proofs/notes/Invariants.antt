@@ -5,7 +5,7 @@ use mathlib.Core.List.{map}
 use lib.ListN.{length, drop}
 use Rattle.table.specs.Document.{nil}
 use Rattle.build.specs.Documents.{intersperse_doc}
-use Rattle.buffer.specs.Parts.{lines, between}
+use Rattle.buffer.specs.Parts.{lines}
 use Rattle.results.specs.Standing.{out_notes}
 use Rattle.words.specs.Documents.{leaf_doc}
 use Rattle.footer.specs.Documents.{comma_doc}

@@ -1,5 +1,5 @@
 -- `footer::put_digits` meets its contract: the digits to come before those that stand are all. Assumes nothing.
-use Prim.Native.Nat.{◌-◌, ◌≤◌}
+use Prim.Native.Nat.{◌≤◌}
 use mathlib.Core.Path.{◌≡◌}
 use mathlib.Core.List.{[]}
 use lib.ListN.{length, drop}

@@ -16,11 +16,10 @@ returns-in-Refused-made c =
 
 pub returns-in-Node-made : goal.returns-in-Node-made
 unfolding breaking
-returns-in-Node-made c =
-    (
-      answers c.group-made.ensures c.in-Node-made.is ∙ goes c.line-made.ensures softline_of c.in-Node.is,
-      λ v i j.
-          let b = lines c.line-made.ensures _ _ c.in-Node.is v in
-          let q = groups (new b) c.group-made.ensures _ _ c.in-Node-made.is b.valid in
-          (q.valid, record { none = kept q (kept b i); hardline = kept q (kept b j); line = kept q (new b); softline = new q }),
-    )
+returns-in-Node-made c = (
+  answers c.group-made.ensures c.in-Node-made.is ∙ goes c.line-made.ensures softline_of c.in-Node.is,
+  λ v i j.
+      let b = lines c.line-made.ensures _ _ c.in-Node.is v in
+      let q = groups (new b) c.group-made.ensures _ _ c.in-Node-made.is b.valid in
+      (q.valid, record { none = kept q (kept b i); hardline = kept q (kept b j); line = kept q (new b); softline = new q }),
+)
