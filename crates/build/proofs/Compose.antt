@@ -18,7 +18,7 @@ use Rattle.table.specs.Fault.{columns_right, fault_of}
 use Rattle.table.specs.Document.{Doc, doc, nil, flat_alt, hardline, text, align}
 use Rattle.build.specs.Draft.{Draft, Built, add, write}
 use Rattle.build.specs.Parts as parts
-use Rattle.build.specs.Documents.{append_doc, group_doc, text_doc, space_doc, line_doc, line₀Doc, softline_doc, softline₀Doc, hang_doc, indent_doc, enclose_doc, joined_doc, concat_doc, separated_doc, intersperse_doc}
+use Rattle.build.specs.Documents.{append_doc, group_doc, text_doc, space_doc, line_doc, line₀_doc, softline_doc, softline₀_doc, hang_doc, indent_doc, enclose_doc, joined_doc, concat_doc, separated_doc, intersperse_doc}
 use Rattle.build.proofs.Grow.{same, then, whole-grown, more-nodes, add-grown, write-grown}
 use Rattle.build.proofs.Clean.{Clean, doc_of, clean_old, clean-add, new-doc}
 use Rattle.build.proofs.Joins.{Below, below_more}
@@ -78,7 +78,7 @@ module _ {s : Draft} (c : Clean s) where
       let e = still first.clean second _ first.present ∙ first.unfolds in
       after first (after second (meaning (ap₂ flat_alt e second.unfolds) (flat_alt-makes second.clean _ _ (there second first.present) second.present)))
 
-  pub line₀-makes : Makes s (parts.line₀ s) line₀Doc
+  pub line₀-makes : Makes s (parts.line₀ s) line₀_doc
   unfolding parts.line₀
   line₀-makes = either_makes parts.nil nil (λ t k. nil-makes k)
 
@@ -95,7 +95,7 @@ module _ {s : Draft} (c : Clean s) where
   unfolding parts.softline
   softline-makes = grouped-makes line-makes
 
-  pub softline₀-makes : Makes s (parts.softline₀ s) softline₀Doc
+  pub softline₀-makes : Makes s (parts.softline₀ s) softline₀_doc
   unfolding parts.softline₀
   softline₀-makes = grouped-makes (line₀-makes c)
 

@@ -23,8 +23,8 @@ use Rattle.build.specs.declared.Asked.TheVariants.{Granted, Denied}
 use Rattle.build.specs.Draft.{Draft, Built, counted}
 use Rattle.build.specs.Outcome.{asked, settled, made}
 use Rattle.build.specs.Constructors.{has, has_all, nest_right, nil_made, append_made, group_made, flat_alt_made, nest_made, hardline_made, text_made, annotate_made, union_made}
-use Rattle.build.specs.Constructors.{align_made, fail_made, space_made, line_made, line₀Made, softline_made, softline₀Made, hang_made, indent_made, enclose_made, concat_made, intersperse_made}
-use Rattle.build.specs.Documents.{append_doc, group_doc, nest_doc, text_doc, space_doc, line_doc, line₀Doc, softline_doc, softline₀Doc, hang_doc, indent_doc, enclose_doc, concat_doc, intersperse_doc}
+use Rattle.build.specs.Constructors.{align_made, fail_made, space_made, line_made, line₀_made, softline_made, softline₀_made, hang_made, indent_made, enclose_made, concat_made, intersperse_made}
+use Rattle.build.specs.Documents.{append_doc, group_doc, nest_doc, text_doc, space_doc, line_doc, line₀_doc, softline_doc, softline₀_doc, hang_doc, indent_doc, enclose_doc, concat_doc, intersperse_doc}
 use Rattle.build.specs.Promise.{doc_at, Promise}
 use Rattle.build.proofs.Grow.{more-nodes, more_bytes}
 use Rattle.build.proofs.Room.{passed, room_of}
@@ -85,14 +85,14 @@ module _ (c : Counts) (table text : List ℕ) where
   pub line_promise : Promise c table text (line_made c table text) line_doc
   line_promise = promise true true true _ line_doc (λ k p a r. line-makes k)
 
-  pub line₀_promise : Promise c table text (line₀Made c table text) line₀Doc
-  line₀_promise = promise true true true _ line₀Doc (λ k p a r. line₀-makes k)
+  pub line₀_promise : Promise c table text (line₀_made c table text) line₀_doc
+  line₀_promise = promise true true true _ line₀_doc (λ k p a r. line₀-makes k)
 
   pub softline_promise : Promise c table text (softline_made c table text) softline_doc
   softline_promise = promise true true true _ softline_doc (λ k p a r. softline-makes k)
 
-  pub softline₀_promise : Promise c table text (softline₀Made c table text) softline₀Doc
-  softline₀_promise = promise true true true _ softline₀Doc (λ k p a r. softline₀-makes k)
+  pub softline₀_promise : Promise c table text (softline₀_made c table text) softline₀_doc
+  softline₀_promise = promise true true true _ softline₀_doc (λ k p a r. softline₀-makes k)
 
   pub text_promise : (bytes : List ℕ) (columns : ℕ) → Promise c table text (text_made c table text bytes columns) (text_doc bytes columns)
   text_promise bytes columns = promise true true (columns_right bytes columns) _ (text_doc bytes columns) (λ k p a r. text-makes k bytes columns r)

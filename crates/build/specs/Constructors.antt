@@ -68,14 +68,14 @@ module _ (c : Counts) (table text : List ℕ) where
   abbrev pub line_made : Outcome
   line_made = plain_made parts.line
 
-  abbrev pub line₀Made : Outcome
-  line₀Made = plain_made parts.line₀
+  abbrev pub line₀_made : Outcome
+  line₀_made = plain_made parts.line₀
 
   abbrev pub softline_made : Outcome
   softline_made = plain_made parts.softline
 
-  abbrev pub softline₀Made : Outcome
-  softline₀Made = plain_made parts.softline₀
+  abbrev pub softline₀_made : Outcome
+  softline₀_made = plain_made parts.softline₀
 
   abbrev pub hang_made : ℕ → ℕ → ℕ → Outcome
   hang_made n amount way = made c table text (has c n) (nest_right amount way) true (λ s. parts.hang s n amount way)

@@ -55,14 +55,14 @@ space_doc = text_doc (32 ∷ []) 1
 abbrev pub line_doc : Doc
 line_doc = flat_alt hardline space_doc
 
-abbrev pub line₀Doc : Doc
-line₀Doc = flat_alt hardline nil
+abbrev pub line₀_doc : Doc
+line₀_doc = flat_alt hardline nil
 
 abbrev pub softline_doc : Doc
 softline_doc = group_doc line_doc
 
-abbrev pub softline₀Doc : Doc
-softline₀Doc = group_doc line₀Doc
+abbrev pub softline₀_doc : Doc
+softline₀_doc = group_doc line₀_doc
 
 abbrev pub hang_doc : Doc → ℕ → ℕ → Doc
 hang_doc a amount way = align (nest_doc a amount way)

@@ -3,8 +3,8 @@ ghost use Rattle.std.specs.Prelude.{◌≡◌, true, ◌*◌, ◌≤◌, leb, le
 ghost use Rattle.build.specs.Parts.{line, line₀};
 ghost use Rattle.build.specs.Solid.{indent_adds};
 ghost use Rattle.build.specs.Outcome.{asked_for, asks_for, outcome, onward, first_made};
-ghost use Rattle.build.specs.Constructors.{has, flat_alt_made, text_made, space_made, line_made, line₀Made};
-ghost use Rattle.build.specs.Constructors.{softline_made, softline₀Made, hang_made, indent_made};
+ghost use Rattle.build.specs.Constructors.{has, flat_alt_made, text_made, space_made, line_made, line₀_made};
+ghost use Rattle.build.specs.Constructors.{softline_made, softline₀_made, hang_made, indent_made};
 
 use crate::{Asked, Asks, Counts, Made};
 use table::{Column, HARDLINE, Indent, NodeNo, Words};
@@ -81,7 +81,7 @@ impl Counts {
 
     pub fn line_(self, table: &mut [u32], text: &[u8]) -> Made
         ensures { outcome result table.new text.now
-            ≡ line₀Made self table.old text.now }
+            ≡ line₀_made self table.old text.now }
     {
         self.broken_or_nil(table, text, 3)
     }
@@ -99,7 +99,7 @@ impl Counts {
 
     pub fn softline_(self, table: &mut [u32], text: &[u8]) -> Made
         ensures { outcome result table.new text.now
-            ≡ softline₀Made self table.old text.now }
+            ≡ softline₀_made self table.old text.now }
     {
         let line = self.broken_or_nil(table, text, 4);
         let Made::Node(c, n) = line else {

@@ -56,8 +56,8 @@ reading_made what a b d s table text =
     (pick (eqb what 8) (c.union_made s table text a b)
     (pick (eqb what 9) (c.align_made s table text a)
     (pick (eqb what 10) (c.fail_made s table text)
-    (pick (eqb what 13) (c.line₀Made s table text)
-    (pick (eqb what 15) (c.softline₀Made s table text)
+    (pick (eqb what 13) (c.line₀_made s table text)
+    (pick (eqb what 15) (c.softline₀_made s table text)
     (pick (eqb what 16) (c.hang_made s table text a b d)
     (c.enclose_made s table text a b d)))))))))))))
 
