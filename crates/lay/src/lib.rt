@@ -10,7 +10,7 @@ ghost use Rattle.std.specs.Prelude.{◌≡◌, false, ◌||◌, ◌∷◌, ◌+�
 ghost use Rattle.table.specs.Node.{way_of};
 ghost use Rattle.rules.specs.Call.{event_words};
 ghost use Rattle.rules.specs.Layout.{nested, wrote, fed};
-ghost use Rattle.machine.specs.Turn.{put, give_up, grouped, on as going, event as noted};
+ghost use Rattle.machine.specs.Turn.{give_up, grouped, on as going, event as noted};
 ghost use Rattle.machine.specs.Waiting.{node as waits, trial as tries, closing, save, next_indent};
 ghost use Rattle.waiting.specs.Area.{area_words, due_of};
 ghost use Rattle.waiting.specs.Stack.{mode_of, flag_of, stack_of};

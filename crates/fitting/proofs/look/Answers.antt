@@ -1,6 +1,5 @@
 -- `fitting::look` meets its contract: an arm for each kind, by the law that Arms.antt has for it.
 -- Assumes nothing.
-use mathlib.Core.Logic.{inl, inr}
 use Rattle.waiting.proofs.Laws.{flat_mode}
 use Rattle.table.proofs.Nodes.{node-is, node-fail, text-columns}
 use Rattle.fitting.proofs.Arms.{look-nil, look-append, look_one, look-through, look-flat_alt, look-hardline, look-hardline-flat, look-text, look-text-past, look-fail}
@@ -45,17 +44,5 @@ returns-in-8 c = look-through _ (λ is left. rw (node-is _ _ 8 c.in-8.is))
 
 pub returns-in_default : goal.returns-in_default
 returns-in_default c =
-    let h = c.in_default.in_default-own.rest in
-    let g = h.0.0.0.0.1 in
     look-fail
-    (node-fail _ _
-    h.0.0.0.0.0.0.1
-    h.0.0.0.0.0.1
-    (λ e. g (inl e))
-    h.0.0.0.1
-    (λ e. g (inr (inl e)))
-    h.0.0.1
-    h.0.1
-    (λ e. g (inr (inr (inl e))))
-    h.1
-    (λ e. g (inr (inr (inr e)))))
+    (node-fail _ _ (omega arith) (omega arith) (grind arith) (omega arith) (grind arith) (omega arith) (omega arith) (grind arith) (omega arith) (grind arith))

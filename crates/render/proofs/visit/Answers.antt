@@ -98,17 +98,6 @@ returns-in-9 c =
 
 pub returns-in_default : goal.returns-in_default
 returns-in_default c =
-    let h = c.in_default.in_default-own.rest in
     visit-fail c.requires
-    (node-fail _ _
-    h.0.0.0.0.0.0.0.0.0.1
-    h.0.0.0.0.0.0.0.0.1
-    h.0.0.0.0.0.0.0.1
-    h.0.0.0.0.0.0.1
-    h.0.0.0.0.0.1
-    h.0.0.0.0.1
-    h.0.0.0.1
-    h.0.0.1
-    h.0.1
-    h.1)
+    (node-fail _ _ (omega arith) (omega arith) (omega arith) (omega arith) (omega arith) (omega arith) (omega arith) (omega arith) (omega arith) (omega arith))
     c.lay_fail.ensures

@@ -1,6 +1,5 @@
 -- `table::node_fault` meets its contract: a Text by itself, any other by the tests in document 01's order. Assumes nothing.
 use mathlib.Core.Path.{sym, ◌∙◌}
-use borrow.Author.Tests.{not-true, not-false}
 use Rattle.table.proofs.Answers.{fault_unused, fault-child, fault-nest, fault-none, fault-text}
 use Rattle.table.proofs.node_fault.Goals as goal
 
@@ -13,28 +12,28 @@ pub returns-then-not-unused_zero : goal.returns-then-not-unused_zero
 returns-then-not-unused_zero c =
     let a = c.args in
     fault_unused a.text.now a.n.0 a.k a.a a.b a.c a.info c.requires.1 c.requires.2
-    (sym c.unused_zero.ensures ∙ not-true _ c.if-not-unused_zero.true-raw)
+    (sym c.unused_zero.ensures ∙ c.if-not-unused_zero.true)
 
 pub returns-then-not-children_below : goal.returns-then-not-children_below
 returns-then-not-children_below c =
     let a = c.args in
     fault-child a.text.now a.n.0 a.k a.a a.b a.c a.info c.requires.1 c.requires.2
-    (sym c.unused_zero.ensures ∙ not-false _ c.if-not-unused_zero.false-raw)
-    (sym c.children_below.ensures ∙ not-true _ c.if-not-children_below.true-raw)
+    (sym c.unused_zero.ensures ∙ c.if-not-unused_zero.false)
+    (sym c.children_below.ensures ∙ c.if-not-children_below.true)
 
 pub returns-then-not-nest_in_range : goal.returns-then-not-nest_in_range
 returns-then-not-nest_in_range c =
     let a = c.args in
     fault-nest a.text.now a.n.0 a.k a.a a.b a.c a.info c.requires.1 c.requires.2
-    (sym c.unused_zero.ensures ∙ not-false _ c.if-not-unused_zero.false-raw)
-    (sym c.children_below.ensures ∙ not-false _ c.if-not-children_below.false-raw)
-    (sym c.nest_in_range.ensures ∙ not-true _ c.if-not-nest_in_range.true-raw)
+    (sym c.unused_zero.ensures ∙ c.if-not-unused_zero.false)
+    (sym c.children_below.ensures ∙ c.if-not-children_below.false)
+    (sym c.nest_in_range.ensures ∙ c.if-not-nest_in_range.true)
 
 pub returns : goal.returns
 returns c =
     let a = c.args in
     fault-none a.text.now a.n.0 a.k a.a a.b a.c a.info c.requires.1 c.requires.2
-    (sym c.unused_zero.ensures ∙ not-false _ c.if-not-unused_zero.false-raw)
-    (sym c.children_below.ensures ∙ not-false _ c.if-not-children_below.false-raw)
-    (sym c.nest_in_range.ensures ∙ not-false _ c.if-not-nest_in_range.false-raw)
+    (sym c.unused_zero.ensures ∙ c.if-not-unused_zero.false)
+    (sym c.children_below.ensures ∙ c.if-not-children_below.false)
+    (sym c.nest_in_range.ensures ∙ c.if-not-nest_in_range.false)
     c.if-k-eq-TEXT.false

@@ -1,6 +1,6 @@
 use native.Mathlib.Omega.{arith}
-use mathlib.Core.Path.{◌≡◌, refl, sym, ◌∙◌}
-use mathlib.Core.Bool.{false}
+use mathlib.Core.Path.{◌≡◌, refl, sym, ◌∙◌, ap}
+use mathlib.Core.Bool.{false, not}
 use lib.ListN.{get_or}
 use Rattle.buffer.specs.Parts.{goes_on}
 use Rattle.buffer.proofs.Reading.{starts_is}
@@ -16,7 +16,7 @@ loop-i-preserved-then-not-starts c =
     let s = c.args.s.now in
     let most = c.args.most in
     let b = get_or s L.i 0 in
-    (omega arith, omega arith, omega arith, omega arith, sym (goes_on_lem most L.wide L.last s L.i (omega arith) (starts_is b ∙ c.if-not-starts.true-raw)) ∙ L.invariant.4)
+    (omega arith, omega arith, omega arith, omega arith, sym (goes_on_lem most L.wide L.last s L.i (omega arith) (starts_is b ∙ ap not c.if-not-starts.true)) ∙ L.invariant.4)
 
 pub last_blank-last-requires : goal.last_blank-last-requires
 last_blank-last-requires c = tt
@@ -30,7 +30,7 @@ returns-then-last-gt0 c =
     let s = c.args.s.now in
     let most = c.args.most in
     let b = get_or s L.i 0 in
-    let g : goes_on b ≡ false = starts_is b ∙ c.if-not-starts.false-raw in
+    let g : goes_on b ≡ false = starts_is b ∙ ap not c.if-not-starts.false in
     let last = blank_after b L.i L.last (omega arith) in (
       at-blank _ L.i c.if-last-gt0.true
           ∙ sym (words-end c.args.most L.wide L.last s L.i (omega arith) g c.last_blank-last.result c.last_blank-last.ensures (sym c.if-ends.true ∙ c.ends.ensures))
@@ -45,7 +45,7 @@ returns-then-ends c =
     let s = c.args.s.now in
     let most = c.args.most in
     let b = get_or s L.i 0 in
-    let g : goes_on b ≡ false = starts_is b ∙ c.if-not-starts.false-raw in (
+    let g : goes_on b ≡ false = starts_is b ∙ ap not c.if-not-starts.false in (
       at_none _ L.i c.if-last-gt0.false
           ∙ sym (words-end c.args.most L.wide L.last s L.i (omega arith) g c.last_blank-last.result c.last_blank-last.ensures (sym c.if-ends.true ∙ c.ends.ensures))
           ∙ L.invariant.4,
@@ -59,7 +59,7 @@ loop-i-preserved c =
     let s = c.args.s.now in
     let most = c.args.most in
     let b = get_or s L.i 0 in
-    let g : goes_on b ≡ false = starts_is b ∙ c.if-not-starts.false-raw in
+    let g : goes_on b ≡ false = starts_is b ∙ ap not c.if-not-starts.false in
     let last = blank_after b L.i L.last (omega arith) in (
       omega arith,
       omega arith,
