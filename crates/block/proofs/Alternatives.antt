@@ -14,7 +14,7 @@ use Rattle.table.specs.Document.{Doc, flat_alt, union}
 use Rattle.choice.proofs.Tests.{and-true}
 use Rattle.build.specs.declared.Counts.{Counts}
 use Rattle.build.specs.declared.Why.TheVariants.{Sizes}
-use Rattle.build.specs.declared.Made.TheVariants.{Refused}
+use Rattle.std.specs.Prelude.{Err}
 use Rattle.build.specs.Draft.{Draft, Built, counted}
 use Rattle.build.specs.Parts as parts
 use Rattle.build.specs.Outcome.{outcome, made}
@@ -167,7 +167,7 @@ format_promise c table text b prefixes suffixes nests = by (sizes_right (length 
     d = block_doc b.amount.0 b.way (doc_at c table text b.body.0) (map (doc_at c table text) prefixes) (map (doc_at c table text) suffixes) nests
 
     by : (q : Bool)
-        → Promise c table text (pick q (made c table text (operands c b prefixes suffixes) (nest_right b.amount.0 b.way) true (λ s. block_of s b prefixes suffixes nests)) (outcome (Refused Sizes) table text)) d
+        → Promise c table text (pick q (made c table text (operands c b prefixes suffixes) (nest_right b.amount.0 b.way) true (λ s. block_of s b prefixes suffixes nests)) (outcome (Err Sizes) table text)) d
     by true =
         promise c table text (operands c b prefixes suffixes) (nest_right b.amount.0 b.way) true (λ s. block_of s b prefixes suffixes nests) d
         (λ k o a r.
@@ -180,6 +180,6 @@ format_promise c table text b prefixes suffixes nests = by (sizes_right (length 
 
 -- affixes too many, or not as many of each
 pub format_sizes : (c : Counts) (table text : List ℕ) (b : Block) (prefixes suffixes : List ℕ) (nests : List Bool)
-    → sizes_right (length prefixes) (length suffixes) (length nests) ≡ false → outcome (Refused Sizes) table text ≡ format_made c table text b prefixes suffixes nests
+    → sizes_right (length prefixes) (length suffixes) (length nests) ≡ false → outcome (Err Sizes) table text ≡ format_made c table text b prefixes suffixes nests
 unfolding format_made
 format_sizes c table text b prefixes suffixes nests e = rw e refl

@@ -16,8 +16,8 @@ use Rattle.choice.proofs.Tests.{and-true}
 use Rattle.build.specs.declared.Counts.{Counts}
 use Rattle.build.specs.declared.Why.{Why}
 use Rattle.build.specs.declared.Why.TheVariants.{Sizes, Operand, Amount, Text, Bytes, Nodes}
-use Rattle.build.specs.declared.Made.{Made}
-use Rattle.build.specs.declared.Made.TheVariants.{Node, Refused}
+use Rattle.build.specs.Outcome.{Made}
+use Rattle.std.specs.Prelude.{Ok, Err}
 use Rattle.build.specs.declared.Asked.{Asked}
 use Rattle.build.specs.declared.Asked.TheVariants.{Granted, Denied}
 use Rattle.build.specs.Draft.{Draft, Built, counted, older}
@@ -104,7 +104,7 @@ module _ (c : Counts) (table text : List ℕ) (b : Block) (ps ss : List ℕ) (qs
   unfolding asked
   no_operand n m u v q d = rw q (rw q at d)
 
-  pub within-refused : (why : Why) → few-asked ≡ Denied why → outcome (Refused why) table text ≡ made c table text present right true f
+  pub within-refused : (why : Why) → few-asked ≡ Denied why → outcome (Err why) table text ≡ made c table text present right true f
   within-refused why d = made_denied c table text present right true f _ _ why refl refl (by present refl)
     where
       by : (q : Bool) → present ≡ q
@@ -123,7 +123,7 @@ module _ (c : Counts) (table text : List ℕ) (b : Block) (ps ss : List ℕ) (qs
     ready : Ready c table text
     ready = record { nodes = facts.counted-nodes; bytes = facts.counted-bytes }
 
-    pub within-body : length ps ≡ 0 → outcome (Node c b.body) table text ≡ made c table text present right true f
+    pub within-body : length ps ≡ 0 → outcome (Ok (c , b.body)) table text ≡ made c table text present right true f
     unfolding counted
     within-body z =
         let n : c.nodes + least (length ps) ≡ c.nodes = rw z (omega arith) in

@@ -20,8 +20,8 @@ use Rattle.table.specs.declared.NodeNo.{NodeNo}
 use Rattle.build.specs.declared.Counts.{Counts}
 use Rattle.build.specs.declared.Why.{Why}
 use Rattle.build.specs.declared.Why.TheVariants.{Nodes}
-use Rattle.build.specs.declared.Made.{Made}
-use Rattle.build.specs.declared.Made.TheVariants.{Node, Refused}
+use Rattle.build.specs.Outcome.{Made}
+use Rattle.std.specs.Prelude.{Ok, Err}
 use Rattle.build.specs.Draft.{Draft, Built, counted, older}
 use Rattle.build.specs.Parts.{append, group}
 use Rattle.build.specs.Outcome.{fits, Outcome, outcome, made}
@@ -108,7 +108,7 @@ module _ {c : Counts} {table text : List ℕ} (r : Ready c table text) where
         short = λ e. ap (λ (x : Outcome). x.made) (o ∙ sym (made-short c table text present amount f r.nodes r.bytes p q quiet e));
       }
 
-  pub ran-older : (n : NodeNo) → Ran c table text (older (counted c table text) n.0) (Node c n) table
+  pub ran-older : (n : NodeNo) → Ran c table text (older (counted c table text) n.0) (Ok (c , n)) table
   unfolding counted
   ran-older n =
       record {
@@ -141,7 +141,7 @@ module _ {c : Counts} {table text : List ℕ} where
       }
     where
       by : fits c.nodes (f s).draft.counts.nodes 1024 (length table / 4) ≡ false → (b : Bool)
-          → fits c₁.nodes (f s).draft.counts.nodes 1024 (length table₁ / 4) ≡ b → Ran c₁ table₁ text (f s) m table₂ → m ≡ Refused Nodes
+          → fits c₁.nodes (f s).draft.counts.nodes 1024 (length table₁ / 4) ≡ b → Ran c₁ table₁ text (f s) m table₂ → m ≡ Err Nodes
       by q true e r =
           let n : s.counts.nodes ≤ (f s).draft.counts.nodes = more-nodes d.grown in
           let e' : fits s.counts.nodes (f s).draft.counts.nodes 1024 (length table / 4) ≡ true = rw (a.stands.counts, same-words a.stands) at e in
@@ -169,7 +169,7 @@ module _ {c : Counts} {table text : List ℕ} where
         went-added (start c table text r.nodes r.bytes) b d.grown room (ran.whole e)
 
     -- a node says that there was room
-    pub had-room : {c₁ : Counts} {n₁ : NodeNo} → m ≡ Node c₁ n₁ → fit ≡ true
+    pub had-room : {c₁ : Counts} {n₁ : NodeNo} → m ≡ Ok (c₁ , n₁) → fit ≡ true
     had-room {c₁} {n₁} e = by fit refl
       where
         by : (q : Bool) → fit ≡ q → fit ≡ true
@@ -177,13 +177,13 @@ module _ {c : Counts} {table text : List ℕ} where
         by false q = let s = ran.short q in let z : ◌≡◌ {A = ℕ} 0 1 = cc in absurd (omega arith)
 
     -- its answer taken apart
-    pub at : {c₁ : Counts} {n₁ : NodeNo} → m ≡ Node c₁ n₁ → At c table text b.draft c₁ table₁ × (n₁.0 ≡ b.node)
+    pub at : {c₁ : Counts} {n₁ : NodeNo} → m ≡ Ok (c₁ , n₁) → At c table text b.draft c₁ table₁ × (n₁.0 ≡ b.node)
     at e =
         let t = taken (gone (had-room e)) e in
         (record { stands = t.0; grown = d.grown; quiet = quietly; room = fits_of _ _ _ _ grows (had-room e) }, t.1)
 
     -- a refusal says that there was none
-    pub no-fit : {why : Why} → m ≡ Refused why → fit ≡ false
+    pub no-fit : {why : Why} → m ≡ Err why → fit ≡ false
     no-fit {why} e = by fit refl
       where
         by : (q : Bool) → fit ≡ q → fit ≡ false
@@ -191,7 +191,7 @@ module _ {c : Counts} {table text : List ℕ} where
         by false q = q
 
     -- handed on: the whole has no room either
-    pub stop : {why : Why} → m ≡ Refused why → {b' : Built} → Adds b.draft b' → Ran c table text b' m table₁
+    pub stop : {why : Why} → m ≡ Err why → {b' : Built} → Adds b.draft b' → Ran c table text b' m table₁
     stop e {b'} d' =
         let none = no_room c.nodes b.draft.counts.nodes b'.draft.counts.nodes (length table / 4) grows (more-nodes d'.grown) (no-fit e) in
         record { whole = λ q. absurd (either _ q none); short = λ q. ran.short (no-fit e) }
@@ -205,7 +205,7 @@ pub record Reached (c : Counts) (table text : List ℕ) (b : Built) : Type 0 whe
   pub is : node.0 ≡ b.node
 
 abbrev pub reached : {c : Counts} {table text : List ℕ} {b : Built} {m : Made} {table₁ : List ℕ} → Ready c table text → Adds (counted c table text) b
-    → Ran c table text b m table₁ → {c₁ : Counts} {n₁ : NodeNo} → m ≡ Node c₁ n₁ → Reached c table text b
+    → Ran c table text b m table₁ → {c₁ : Counts} {n₁ : NodeNo} → m ≡ Ok (c₁ , n₁) → Reached c table text b
 reached {table₁ = table₁} r d ran {c₁} {n₁} e = let t = at r d ran e in record { counts = c₁; node = n₁; left = table₁; place = t.0; is = t.1 }
 
 -- ---- a constructor as the next part
@@ -264,17 +264,17 @@ module _ {c : Counts} {table text : List ℕ} (r : Ready c table text) {b₁ : B
   d₃ = group-adds b₂.draft b₂.node d₂.present
 
   module _ {m₁ : Made} {table₁ : List ℕ} (ran₁ : Ran c table text b₁ m₁ table₁) where
-    pub first_stops : {why : Why} → m₁ ≡ Refused why → Ran c table text both m₁ table₁
+    pub first_stops : {why : Why} → m₁ ≡ Err why → Ran c table text both m₁ table₁
     first_stops e = stop r d₁ ran₁ e (adds_then d₂ d₃)
 
-    module _ {c₁ : Counts} {n₁ : NodeNo} (e₁ : m₁ ≡ Node c₁ n₁) {m₂ : Made} {table₂ : List ℕ} (ran₂ : Ran c₁ table₁ text (f₂ (counted c₁ table₁ text)) m₂ table₂) where
+    module _ {c₁ : Counts} {n₁ : NodeNo} (e₁ : m₁ ≡ Ok (c₁ , n₁)) {m₂ : Made} {table₂ : List ℕ} (ran₂ : Ran c₁ table₁ text (f₂ (counted c₁ table₁ text)) m₂ table₂) where
       so_far : Ran c table text b₂ m₂ table₂
       so_far = go (at r d₁ ran₁ e₁).0 f₂ d₂ ran₂
 
-      pub second_stops : {why : Why} → m₂ ≡ Refused why → Ran c table text both m₂ table₂
+      pub second_stops : {why : Why} → m₂ ≡ Err why → Ran c table text both m₂ table₂
       second_stops e = stop r (adds_then d₁ d₂) so_far e d₃
 
-      pub group_last : {c₂ : Counts} {n₂ : NodeNo} → m₂ ≡ Node c₂ n₂ → {m₃ : Made} {table₃ : List ℕ} → outcome m₃ table₃ text ≡ group_made c₂ table₂ text n₂.0
+      pub group_last : {c₂ : Counts} {n₂ : NodeNo} → m₂ ≡ Ok (c₂ , n₂) → {m₃ : Made} {table₃ : List ℕ} → outcome m₃ table₃ text ≡ group_made c₂ table₂ text n₂.0
           → Ran c table text both m₃ table₃
       group_last e o =
           let t = at r (adds_then d₁ d₂) so_far e in

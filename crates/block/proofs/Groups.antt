@@ -12,8 +12,8 @@ use lib.Dec.{ltb}
 use Rattle.table.specs.declared.NodeNo.{NodeNo}
 use Rattle.build.specs.declared.Counts.{Counts}
 use Rattle.build.specs.declared.Why.{Why}
-use Rattle.build.specs.declared.Made.{Made}
-use Rattle.build.specs.declared.Made.TheVariants.{Node, Refused}
+use Rattle.build.specs.Outcome.{Made}
+use Rattle.std.specs.Prelude.{Ok, Err}
 use Rattle.build.specs.Draft.{Draft, Built, counted}
 use Rattle.build.specs.Parts.{append}
 use Rattle.build.specs.Outcome.{outcome}
@@ -47,11 +47,11 @@ module _ {c : Counts} {table text : List ℕ} (r : Ready c table text) {sh : Sha
       guarded-adds joined.draft sh joined.node (ltb 1 (length before)) (stays-there joined-adds (start-node r j.guard)) joined-adds.present
 
   module _ {m₁ : Made} {table₁ : List ℕ} (ran₁ : Ran c table text joined m₁ table₁) where
-    pub head_stop₁ : {why : Why} → m₁ ≡ Refused why → Ran c table text (head (counted c table text) sh before) m₁ table₁
+    pub head_stop₁ : {why : Why} → m₁ ≡ Err why → Ran c table text (head (counted c table text) sh before) m₁ table₁
     unfolding head
     head_stop₁ e = first_stops r joined-adds guard guard-adds ran₁ e
 
-    module _ {c₁ : Counts} {n₁ : NodeNo} (e₁ : m₁ ≡ Node c₁ n₁) where
+    module _ {c₁ : Counts} {n₁ : NodeNo} (e₁ : m₁ ≡ Ok (c₁ , n₁)) where
       after_list : At c table text joined.draft c₁ table₁ × (n₁.0 ≡ joined.node)
       after_list = at r joined-adds ran₁ e₁
 
@@ -63,11 +63,11 @@ module _ {c : Counts} {table text : List ℕ} (r : Ready c table text) {sh : Sha
         guard_ran : Ran c₁ table₁ text (guard (counted c₁ table₁ text)) m₂ table₂
         guard_ran = rw after_list.1 at ran₂
 
-        pub head_stop₂ : {why : Why} → m₂ ≡ Refused why → Ran c table text (head (counted c table text) sh before) m₂ table₂
+        pub head_stop₂ : {why : Why} → m₂ ≡ Err why → Ran c table text (head (counted c table text) sh before) m₂ table₂
         unfolding head
         head_stop₂ e = second_stops r joined-adds guard guard-adds ran₁ e₁ guard_ran e
 
-        pub head_last : {c₂ : Counts} {n₂ : NodeNo} → m₂ ≡ Node c₂ n₂
+        pub head_last : {c₂ : Counts} {n₂ : NodeNo} → m₂ ≡ Ok (c₂ , n₂)
             → {m₃ : Made} {table₃ : List ℕ} → outcome m₃ table₃ text ≡ group_made c₂ table₂ text n₂.0 → Ran c table text (head (counted c table text) sh before) m₃ table₃
         unfolding head
         head_last e₂ o = group_last r joined-adds guard guard-adds ran₁ e₁ guard_ran e₂ o
@@ -92,22 +92,22 @@ module _ {c : Counts} {table text : List ℕ} (r : Ready c table text) {sh : Sha
   join-adds = append-adds suffixes.draft n suffixes.node still-there suffixes-adds.present
 
   module _ {m₁ : Made} {table₁ : List ℕ} (ran₁ : Ran c table text suffixes m₁ table₁) where
-    pub tail_stop₁ : {why : Why} → m₁ ≡ Refused why → Ran c table text (tail (counted c table text) sh n before) m₁ table₁
+    pub tail_stop₁ : {why : Why} → m₁ ≡ Err why → Ran c table text (tail (counted c table text) sh n before) m₁ table₁
     unfolding tail
     tail_stop₁ e = first_stops r suffixes-adds join join-adds ran₁ e
 
-    module _ {c₁ : Counts} {n₁ : NodeNo} (e₁ : m₁ ≡ Node c₁ n₁) {m₂ : Made} {table₂ : List ℕ}
+    module _ {c₁ : Counts} {n₁ : NodeNo} (e₁ : m₁ ≡ Ok (c₁ , n₁)) {m₂ : Made} {table₂ : List ℕ}
         (o₂ : outcome m₂ table₂ text ≡ append_made c₁ table₁ text n n₁.0) where
       join_ran : Ran c₁ table₁ text (join (counted c₁ table₁ text)) m₂ table₂
       join_ran =
           let t = at r suffixes-adds ran₁ e₁ in
           ran_append (ready t.0) n suffixes.node (counted-node t.0 still-there) (counted-node t.0 suffixes-adds.present) (rw t.1 at o₂)
 
-      pub tail_stop₂ : {why : Why} → m₂ ≡ Refused why → Ran c table text (tail (counted c table text) sh n before) m₂ table₂
+      pub tail_stop₂ : {why : Why} → m₂ ≡ Err why → Ran c table text (tail (counted c table text) sh n before) m₂ table₂
       unfolding tail
       tail_stop₂ e = second_stops r suffixes-adds join join-adds ran₁ e₁ join_ran e
 
-      pub tail_last : {c₂ : Counts} {n₂ : NodeNo} → m₂ ≡ Node c₂ n₂
+      pub tail_last : {c₂ : Counts} {n₂ : NodeNo} → m₂ ≡ Ok (c₂ , n₂)
           → {m₃ : Made} {table₃ : List ℕ} → outcome m₃ table₃ text ≡ group_made c₂ table₂ text n₂.0 → Ran c table text (tail (counted c table text) sh n before) m₃ table₃
       unfolding tail
       tail_last e₂ o = group_last r suffixes-adds join join-adds ran₁ e₁ join_ran e₂ o
@@ -132,11 +132,11 @@ module _ {c : Counts} {table text : List ℕ} (r : Ready c table text) {b : Bloc
     prefixed_ran : Ran c table text prefixed m₁ table₁
     prefixed_ran = ran_append r prefix n prefix-there there o₁
 
-    pub wrap_stop₁ : {why : Why} → m₁ ≡ Refused why → Ran c table text (wrap (counted c table text) b n prefix flag) m₁ table₁
+    pub wrap_stop₁ : {why : Why} → m₁ ≡ Err why → Ran c table text (wrap (counted c table text) b n prefix flag) m₁ table₁
     unfolding wrap
     wrap_stop₁ e = first_stops r prefixed-adds nest_it nest_it-adds prefixed_ran e
 
-    module _ {c₁ : Counts} {n₁ : NodeNo} (e₁ : m₁ ≡ Node c₁ n₁) where
+    module _ {c₁ : Counts} {n₁ : NodeNo} (e₁ : m₁ ≡ Ok (c₁ , n₁)) where
       after-join : At c table text prefixed.draft c₁ table₁ × (n₁.0 ≡ prefixed.node)
       after-join = at r prefixed-adds prefixed_ran e₁
 
@@ -147,11 +147,11 @@ module _ {c : Counts} {table text : List ℕ} (r : Ready c table text) {b : Bloc
         nest_it_ran : Ran c₁ table₁ text (nest_it (counted c₁ table₁ text)) m₂ table₂
         nest_it_ran = rw after-join.1 at ran₂
 
-        pub wrap_stop₂ : {why : Why} → m₂ ≡ Refused why → Ran c table text (wrap (counted c table text) b n prefix flag) m₂ table₂
+        pub wrap_stop₂ : {why : Why} → m₂ ≡ Err why → Ran c table text (wrap (counted c table text) b n prefix flag) m₂ table₂
         unfolding wrap
         wrap_stop₂ e = second_stops r prefixed-adds nest_it nest_it-adds prefixed_ran e₁ nest_it_ran e
 
-        pub wrap_last : {c₂ : Counts} {n₂ : NodeNo} → m₂ ≡ Node c₂ n₂
+        pub wrap_last : {c₂ : Counts} {n₂ : NodeNo} → m₂ ≡ Ok (c₂ , n₂)
             → {m₃ : Made} {table₃ : List ℕ} → outcome m₃ table₃ text ≡ group_made c₂ table₂ text n₂.0 → Ran c table text (wrap (counted c table text) b n prefix flag) m₃ table₃
         unfolding wrap
         wrap_last e₂ o = group_last r prefixed-adds nest_it nest_it-adds prefixed_ran e₁ nest_it_ran e₂ o

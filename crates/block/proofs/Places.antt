@@ -17,8 +17,8 @@ use Rattle.table.specs.declared.NodeNo.{NodeNo}
 use Rattle.build.specs.declared.Counts.{Counts}
 use Rattle.build.specs.declared.Why.{Why}
 use Rattle.build.specs.declared.Why.TheVariants.{Nodes}
-use Rattle.build.specs.declared.Made.{Made}
-use Rattle.build.specs.declared.Made.TheVariants.{Node, Refused}
+use Rattle.build.specs.Outcome.{Made}
+use Rattle.std.specs.Prelude.{Ok, Err}
 use Rattle.build.specs.Draft.{Built, counted, over}
 use Rattle.build.specs.Outcome.{fits, outcome, added, made}
 use Rattle.build.proofs.Room.{Fits, fits_of, of-fits}
@@ -95,7 +95,7 @@ module _ {c : Counts} {table text : List ℕ} (r : Ready c table text) {b : Bloc
   Goal m table' = outcome m table' text ≡ made c table text true true true (λ s. layouts s b ps ss qs others)
 
   -- no room: refused
-  refused : fits c.nodes whole.draft.counts.nodes 1024 (length table / 4) ≡ false → Goal (Refused Nodes) table
+  refused : fits c.nodes whole.draft.counts.nodes 1024 (length table / 4) ≡ false → Goal (Err Nodes) table
   refused e = made-short c table text true true (λ s. layouts s b ps ss qs others) r.nodes r.bytes refl refl quiet e
 
   abbrev W : ℕ
@@ -113,14 +113,14 @@ module _ {c : Counts} {table text : List ℕ} (r : Ready c table text) {b : Bloc
     ran : Ran c own text whole m own₁
     ran = rw own-counted at ran₀
 
-    pub placed-stop : {why : Why} → m ≡ Refused why → Goal m table
+    pub placed-stop : {why : Why} → m ≡ Err why → Goal m table
     placed-stop x =
         let none = no-fit own_ready own-adds ran x in
         let small : W ≤ 1024 → fits c.nodes W 1024 (length own / 4) ≡ true =
         λ l. let g : c.nodes ≤ W = let h = three in omega arith in of-fits (record { grows = g; limited = λ y. l; inside = λ y. rw own-length (omega arith) }) in
         rw (ran.short none) (refused (none_lent (fits c.nodes W 1024 (length table / 4)) refl (λ l m. true≢false (sym (small l) ∙ none))))
 
-    module _ {d : Counts} {n : NodeNo} (x : m ≡ Node d n) where
+    module _ {d : Counts} {n : NodeNo} (x : m ≡ Ok (d , n)) where
       t : At c own text whole.draft d own₁ × (n.0 ≡ whole.node)
       t = at own_ready own-adds ran x
 
@@ -130,7 +130,7 @@ module _ {c : Counts} {table text : List ℕ} (r : Ready c table text) {b : Bloc
       few-whole : W ≤ 1024
       few-whole = let h = three in (fits_of c.nodes W 1024 (length own / 4) (omega arith) (had-room own_ready own-adds ran x)).limited (omega arith)
 
-      pub placed-short : length table / 4 < d.nodes → Goal (Refused Nodes) table
+      pub placed-short : length table / 4 < d.nodes → Goal (Err Nodes) table
       placed-short h = let e = is_whole in refused (none_lent (fits c.nodes W 1024 (length table / 4)) refl (λ l m. omega arith))
 
       pub placed_copies : d.nodes ≤ length table / 4 → (c.nodes * 4 ≤ d.nodes * 4) × (d.nodes * 4 ≤ length own₁) × (d.nodes * 4 ≤ length table)
@@ -142,7 +142,7 @@ module _ {c : Counts} {table text : List ℕ} (r : Ready c table text) {b : Bloc
           (omega arith, omega arith, omega arith)
 
       pub placed_last : d.nodes ≤ length table / 4 → {table' : List ℕ}
-          → table' ≡ put table (c.nodes * 4) (take (d.nodes * 4 - c.nodes * 4) (drop (c.nodes * 4) own₁)) → Goal (Node d n) table'
+          → table' ≡ put table (c.nodes * 4) (take (d.nodes * 4 - c.nodes * 4) (drop (c.nodes * 4) own₁)) → Goal (Ok (d , n)) table'
       unfolding added counted
       placed_last h e =
           let is = is_whole in
@@ -154,5 +154,5 @@ module _ {c : Counts} {table text : List ℕ} (r : Ready c table text) {b : Bloc
           over_copied table own adds.grown.words whole.draft.table (c.nodes * 4) (d.nodes * 4 - c.nodes * 4) adds.grown.table used-inside size in
           let laid = e ∙ ap (λ (l : List ℕ). put table (c.nodes * 4) (take (d.nodes * 4 - c.nodes * 4) (drop (c.nodes * 4) l))) t.0.stands.words ∙ words in
           let kept = t.0.stands.bytes in
-          (λ i. outcome (Node (t.0.stands.counts i) (record { 0 = t.1 i })) (laid i) (kept i))
+          (λ i. outcome (Ok ((t.0.stands.counts i) , (record { 0 = t.1 i }))) (laid i) (kept i))
           ∙ sym (made-whole c table text true true (λ s. layouts s b ps ss qs others) r.nodes r.bytes refl refl quiet (of-fits room))

@@ -13,8 +13,8 @@ use lib.Seq.{take_all, length-take-le}
 use Rattle.table.specs.declared.NodeNo.{NodeNo}
 use Rattle.build.specs.declared.Counts.{Counts}
 use Rattle.build.specs.declared.Why.{Why}
-use Rattle.build.specs.declared.Made.{Made}
-use Rattle.build.specs.declared.Made.TheVariants.{Node, Refused}
+use Rattle.build.specs.Outcome.{Made}
+use Rattle.std.specs.Prelude.{Ok, Err}
 use Rattle.build.specs.Draft.{Draft, Built, counted}
 use Rattle.build.specs.Parts.{append}
 use Rattle.build.specs.Outcome.{outcome}
@@ -117,10 +117,10 @@ module _ {c : Counts} {table text : List ℕ} (r : Ready c table text) {b : Bloc
   split_asks₁ = (r, k.shares, unfold counted in of-below c before (below-take _ split ps on.before))
 
   module _ {m : Made} {table' : List ℕ} (ran : Ran c table text front m table') where
-    pub split_stop₁ : {why : Why} → m ≡ Refused why → Ran c table text whole m table'
+    pub split_stop₁ : {why : Why} → m ≡ Err why → Ran c table text whole m table'
     split_stop₁ x = stop r d₁ ran x (adds_then d₂ (adds_then d₃ (adds_then d₄ d₅)))
 
-    abbrev pub split-front : {c' : Counts} {n : NodeNo} → m ≡ Node c' n → AtFront
+    abbrev pub split-front : {c' : Counts} {n : NodeNo} → m ≡ Ok (c' , n) → AtFront
     split-front x = reached r d₁ ran x
 
   -- ---- Core
@@ -139,10 +139,10 @@ module _ {c : Counts} {table text : List ℕ} (r : Ready c table text) {b : Bloc
       pub ran_middle : Ran c table text middle m table'
       ran_middle = go f.place (λ s. core s b sh (bare s before) (drop split ss)) d₂ (rw (asked, rest_all split ss) at ran)
 
-      pub split_stop₂ : {why : Why} → m ≡ Refused why → Ran c table text whole m table'
+      pub split_stop₂ : {why : Why} → m ≡ Err why → Ran c table text whole m table'
       split_stop₂ x = stop r to_middle ran_middle x (adds_then d₃ (adds_then d₄ d₅))
 
-      abbrev pub split_middle : {c' : Counts} {n : NodeNo} → m ≡ Node c' n → AtMiddle
+      abbrev pub split_middle : {c' : Counts} {n : NodeNo} → m ≡ Ok (c' , n) → AtMiddle
       split_middle x = reached r to_middle ran_middle x
 
   -- ---- the wraps
@@ -164,10 +164,10 @@ module _ {c : Counts} {table text : List ℕ} (r : Ready c table text) {b : Bloc
       ran-wrapped =
           go f.place (λ s. wraps s b middle.node (drop split ps) (drop split qs)) d₃ (rw (f.is, rest_all split ps, rest_all split qs) at ran)
 
-      pub split_stop₃ : {why : Why} → m ≡ Refused why → Ran c table text whole m table'
+      pub split_stop₃ : {why : Why} → m ≡ Err why → Ran c table text whole m table'
       split_stop₃ x = stop r to-wrapped ran-wrapped x (adds_then d₄ d₅)
 
-      abbrev pub split-wrapped : {c' : Counts} {n : NodeNo} → m ≡ Node c' n → AtWrapped
+      abbrev pub split-wrapped : {c' : Counts} {n : NodeNo} → m ≡ Ok (c' , n) → AtWrapped
       split-wrapped x = reached r to-wrapped ran-wrapped x
 
   -- ---- Tail
@@ -186,10 +186,10 @@ module _ {c : Counts} {table text : List ℕ} (r : Ready c table text) {b : Bloc
       pub ran-back : Ran c table text back m table'
       ran-back = go f.place (λ s. tail s sh wrapped.node (take split ss)) d₄ (rw f.is at ran)
 
-      pub split_stop₄ : {why : Why} → m ≡ Refused why → Ran c table text whole m table'
+      pub split_stop₄ : {why : Why} → m ≡ Err why → Ran c table text whole m table'
       split_stop₄ x = stop r to_back ran-back x d₅
 
-      abbrev pub split-back : {c' : Counts} {n : NodeNo} → m ≡ Node c' n → AtBack
+      abbrev pub split-back : {c' : Counts} {n : NodeNo} → m ≡ Ok (c' , n) → AtBack
       split-back x = reached r to_back ran-back x
 
   -- ---- Head joined to Tail

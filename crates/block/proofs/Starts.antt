@@ -11,8 +11,8 @@ use lib.ListN.{length}
 use Rattle.table.specs.declared.NodeNo.{NodeNo}
 use Rattle.build.specs.declared.Counts.{Counts}
 use Rattle.build.specs.declared.Why.{Why}
-use Rattle.build.specs.declared.Made.{Made}
-use Rattle.build.specs.declared.Made.TheVariants.{Node, Refused}
+use Rattle.build.specs.Outcome.{Made}
+use Rattle.std.specs.Prelude.{Ok, Err}
 use Rattle.build.specs.Draft.{Draft, Built, counted}
 use Rattle.build.specs.Parts.{nil, fail, flat_alt}
 use Rattle.build.specs.Outcome.{outcome}
@@ -117,17 +117,17 @@ module _ {c : Counts} {table text : List ℕ} (r : Ready c table text) {b : Bloc
     so₁ : Ran c table text (b₁ s₀) m₁ table₁
     so₁ = go-made (begin r) nil (d₁ s₀) refl refl o₁
 
-    pub start_stop₁ : {why : Why} → m₁ ≡ Refused why → Ran c table text whole m₁ table₁
+    pub start_stop₁ : {why : Why} → m₁ ≡ Err why → Ran c table text whole m₁ table₁
     start_stop₁ x = stop r (d₁ s₀) so₁ x (adds_then (d₂ s₀) (adds_then (d₃ s₀) (adds_then a₄ a₅)))
 
-    module _ {c₁ : Counts} {n₁ : NodeNo} (x₁ : m₁ ≡ Node c₁ n₁) {m₂ : Made} {table₂ : List ℕ} (o₂ : outcome m₂ table₂ text ≡ fail_made c₁ table₁ text) where
+    module _ {c₁ : Counts} {n₁ : NodeNo} (x₁ : m₁ ≡ Ok (c₁ , n₁)) {m₂ : Made} {table₂ : List ℕ} (o₂ : outcome m₂ table₂ text ≡ fail_made c₁ table₁ text) where
       so₂ : Ran c table text (b₂ s₀) m₂ table₂
       so₂ = go-made (at r (d₁ s₀) so₁ x₁).0 fail (d₂ s₀) refl refl o₂
 
-      pub start_stop₂ : {why : Why} → m₂ ≡ Refused why → Ran c table text whole m₂ table₂
+      pub start_stop₂ : {why : Why} → m₂ ≡ Err why → Ran c table text whole m₂ table₂
       start_stop₂ x = stop r a₁₂ so₂ x (adds_then (d₃ s₀) (adds_then a₄ a₅))
 
-      module _ {c₂ : Counts} {n₂ : NodeNo} (x₂ : m₂ ≡ Node c₂ n₂) {m₃ : Made} {table₃ : List ℕ}
+      module _ {c₂ : Counts} {n₂ : NodeNo} (x₂ : m₂ ≡ Ok (c₂ , n₂)) {m₃ : Made} {table₃ : List ℕ}
           (o₃ : outcome m₃ table₃ text ≡ flat_alt_made c₂ table₂ text n₂.0 n₁.0) where
         so₃ : Ran c table text (b₃ s₀) m₃ table₃
         so₃ =
@@ -136,10 +136,10 @@ module _ {c : Counts} {table text : List ℕ} (r : Ready c table text) {b : Bloc
             go-made t.0 (λ s. flat_alt s (b₂ s₀).node (b₁ s₀).node) (d₃ s₀)
             (two t.0 (b₂ s₀).node (b₁ s₀).node (d₂ s₀).present (stays-there (d₂ s₀) (d₁ s₀).present)) refl (rw (t.1, n) at o₃)
 
-        pub start_stop₃ : {why : Why} → m₃ ≡ Refused why → Ran c table text whole m₃ table₃
+        pub start_stop₃ : {why : Why} → m₃ ≡ Err why → Ran c table text whole m₃ table₃
         start_stop₃ x = stop r (d₁₂₃ s₀) so₃ x (adds_then a₄ a₅)
 
-        module _ {c₃ : Counts} {n₃ : NodeNo} (x₃ : m₃ ≡ Node c₃ n₃) where
+        module _ {c₃ : Counts} {n₃ : NodeNo} (x₃ : m₃ ≡ Ok (c₃ , n₃)) where
           t₃ : At c table text (b₃ s₀).draft c₃ table₃ × (n₃.0 ≡ (b₃ s₀).node)
           t₃ = at r (d₁₂₃ s₀) so₃ x₃
 
@@ -168,10 +168,10 @@ module _ {c : Counts} {table text : List ℕ} (r : Ready c table text) {b : Bloc
                 let all : length ps ≡ suc others = let h = k.some in omega arith in
                 go t₃.0 (λ s. alternative s b (sh s₀) ps ss qs (suc others)) a₄ (rw (shared-is, all) at ran₄)
 
-            pub start_stop₄ : {why : Why} → m₄ ≡ Refused why → Ran c table text whole m₄ table₄
+            pub start_stop₄ : {why : Why} → m₄ ≡ Err why → Ran c table text whole m₄ table₄
             start_stop₄ x = stop r (adds_then (d₁₂₃ s₀) a₄) so₄ x a₅
 
-            module _ {c₄ : Counts} {n₄ : NodeNo} (x₄ : m₄ ≡ Node c₄ n₄) where
+            module _ {c₄ : Counts} {n₄ : NodeNo} (x₄ : m₄ ≡ Ok (c₄ , n₄)) where
               t₄ : At c table text (b₄ s₀ b ps ss qs others the-body the-before the-behind).draft c₄ table₄ × (n₄.0 ≡ (b₄ s₀ b ps ss qs others the-body the-before the-behind).node)
               t₄ = at r (adds_then (d₁₂₃ s₀) a₄) so₄ x₄
 

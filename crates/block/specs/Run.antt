@@ -2,8 +2,8 @@
 use Rattle.std.specs.Prelude.{ℕ, ◌/◌, ◌≤◌, ◌<◌, ◌≡◌, true, false, List, length}
 use Rattle.build.specs.declared.Counts.{Counts}
 use Rattle.build.specs.declared.Why.TheVariants.{Nodes}
-use Rattle.build.specs.declared.Made.{Made}
-use Rattle.build.specs.declared.Made.TheVariants.{Refused}
+use Rattle.build.specs.Outcome.{Made}
+use Rattle.std.specs.Prelude.{Err}
 use Rattle.build.specs.Draft.{Draft, Built, counted}
 use Rattle.build.specs.Outcome.{fits, outcome, added}
 use Rattle.block.specs.declared.Shared.{Shared}
@@ -21,7 +21,7 @@ pub record Shares (c : Counts) (sh : Shared) : Type 0 where
 -- what was built stands over the table if there is room for it; else the refusal
 pub record Ran (c : Counts) (table text : List ℕ) (b : Built) (r : Made) (table' : List ℕ) : Type 0 where
   pub whole : fits c.nodes b.draft.counts.nodes 1024 (length table / 4) ≡ true → outcome r table' text ≡ added b table text
-  pub short : fits c.nodes b.draft.counts.nodes 1024 (length table / 4) ≡ false → r ≡ Refused Nodes
+  pub short : fits c.nodes b.draft.counts.nodes 1024 (length table / 4) ≡ false → r ≡ Err Nodes
 
 -- the same of what a part adds to what is counted
 abbrev pub Runs : Counts → List ℕ → List ℕ → (Draft → Built) → Made → List ℕ → Type 0

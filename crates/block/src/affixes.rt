@@ -18,7 +18,7 @@ pub fn list(c: Counts, table: &mut [u32], text: &[u8], none: NodeNo, nodes: &[u3
         result table.new }
 {
     if nodes.len() == 0 {
-        return Made::Node(c, none);
+        return Ok((c, none));
     }
     c.concat(table, text, nodes)
 }
@@ -63,7 +63,7 @@ pub fn guarded(
     if asked {
         return c.append(table, text, n, guard);
     }
-    Made::Node(c, n)
+    Ok((c, n))
 }
 
 // A group of before's prefixes, then the guard if there is more than one.
@@ -74,14 +74,8 @@ pub fn head(c: Counts, table: &mut [u32], text: &[u8], shared: Shared, before: &
         result table.new }
 {
     let none = shared.none;
-    let first = list(c, table, text, none, before);
-    let Made::Node(c, n) = first else {
-        return first;
-    };
-    let second = guarded(c, table, text, shared, n, 1 < before.len());
-    let Made::Node(c, n) = second else {
-        return second;
-    };
+    let (c, n) = list(c, table, text, none, before)?;
+    let (c, n) = guarded(c, table, text, shared, n, 1 < before.len())?;
     c.group(table, text, n)
 }
 
@@ -103,13 +97,7 @@ pub fn tail(
         result table.new }
 {
     let none = shared.none;
-    let first = list(c, table, text, none, before);
-    let Made::Node(c, suffixes) = first else {
-        return first;
-    };
-    let second = c.append(table, text, n, suffixes);
-    let Made::Node(c, n) = second else {
-        return second;
-    };
+    let (c, suffixes) = list(c, table, text, none, before)?;
+    let (c, n) = c.append(table, text, n, suffixes)?;
     c.group(table, text, n)
 }

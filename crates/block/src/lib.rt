@@ -12,7 +12,7 @@ ghost use Rattle.block.specs.Block.{alternative, unions, layouts, block_of, size
 ghost use Rattle.block.specs.Run.{Ready, Runs};
 ghost use Rattle.block.specs.Operands.{AllPresent, Even, Askable};
 
-use build::{Asked, Asks, Counts, Made, Why};
+use build::{Asks, Counts, Made, Why};
 use parts::alternative;
 use table::{Indent, NodeNo};
 
@@ -59,21 +59,15 @@ fn unions(
     let mut n = n;
     let mut split = split;
     while 0 < split {
-        let made = alternative(
+        let (next, other) = alternative(
             c, table, text, block, shared, prefixes, suffixes, nests, split,
-        );
-        let Made::Node(next, other) = made else {
-            return made;
-        };
-        let joined = next.union(table, text, n, other);
-        let Made::Node(next, both) = joined else {
-            return joined;
-        };
+        )?;
+        let (next, both) = next.union(table, text, n, other)?;
         c = next;
         n = both;
         split -= 1;
     }
-    Made::Node(c, n)
+    Ok((c, n))
 }
 
 // One Nil, one Fail and the guard; then all affixes before, and down to one.
@@ -92,28 +86,16 @@ fn layouts(
         result table.new }
 {
     let all = prefixes.len();
-    let first = c.nil(table, text);
-    let Made::Node(c, none) = first else {
-        return first;
-    };
-    let second = c.fail(table, text);
-    let Made::Node(c, failing) = second else {
-        return second;
-    };
-    let third = c.flat_alt(table, text, failing, none);
-    let Made::Node(c, guard) = third else {
-        return third;
-    };
+    let (c, none) = c.nil(table, text)?;
+    let (c, failing) = c.fail(table, text)?;
+    let (c, guard) = c.flat_alt(table, text, failing, none)?;
     let shared = Shared {
         none: none,
         guard: guard,
     };
-    let fourth = alternative(
+    let (c, n) = alternative(
         c, table, text, block, shared, prefixes, suffixes, nests, all,
-    );
-    let Made::Node(c, n) = fourth else {
-        return fourth;
-    };
+    )?;
     unions(
         c,
         table,
@@ -160,16 +142,13 @@ fn placed(
     let mut own = [0u32; 4096];
     let used = c.nodes as usize * 4;
     copy_words(table, 0, used, &mut own, 0);
-    let made = layouts(c, &mut own, text, block, prefixes, suffixes, nests);
-    let Made::Node(d, n) = made else {
-        return made;
-    };
+    let (d, n) = layouts(c, &mut own, text, block, prefixes, suffixes, nests)?;
     let nodes = d.nodes as usize;
     if table.len() / 4 < nodes {
-        return Made::Refused(Why::Nodes);
+        return Err(Why::Nodes);
     }
     copy_words(&own, used, nodes * 4 - used, table, used);
-    Made::Node(d, n)
+    Ok((d, n))
 }
 
 // At most 8 affixes, each with a prefix, a suffix and a flag.
@@ -221,22 +200,19 @@ fn within(
     let present = operands(c, block, prefixes, suffixes);
     let right = build::nest_right(amount, block.way);
     let few = least(prefixes.len());
-    let asked = c.ask(
+    c.ask(
         table.len(),
         text.len(),
         Asks {
-            present: present,
+            present,
             amount: right,
             text: true,
             nodes: few,
             bytes: 0,
         },
-    );
-    if let Asked::Denied(why) = asked {
-        return Made::Refused(why);
-    }
-    if prefixes.len() == 0 {
-        return Made::Node(c, body);
+    )?;
+    if prefixes.is_empty() {
+        return Ok((c, body));
     }
     placed(c, table, text, block, prefixes, suffixes, nests)
 }
@@ -260,6 +236,6 @@ impl Block {
         if sizes_right(prefixes.len(), suffixes.len(), nests.len()) {
             return within(c, table, text, self, prefixes, suffixes, nests);
         }
-        Made::Refused(Why::Sizes)
+        Err(Why::Sizes)
     }
 }

@@ -28,7 +28,7 @@ pub fn nested(
     if flag {
         return c.nest(table, text, n, amount, block.way);
     }
-    Made::Node(c, n)
+    Ok((c, n))
 }
 
 // Body, joined to the guard if asked, nested, then after's suffixes.
@@ -48,18 +48,9 @@ pub fn core(
 {
     let body = block.body;
     let none = shared.none;
-    let first = guarded(c, table, text, shared, body, asked);
-    let Made::Node(c, n) = first else {
-        return first;
-    };
-    let second = nested(c, table, text, block, n, true);
-    let Made::Node(c, n) = second else {
-        return second;
-    };
-    let third = list(c, table, text, none, after);
-    let Made::Node(c, suffixes) = third else {
-        return third;
-    };
+    let (c, n) = guarded(c, table, text, shared, body, asked)?;
+    let (c, n) = nested(c, table, text, block, n, true)?;
+    let (c, suffixes) = list(c, table, text, none, after)?;
     c.append(table, text, n, suffixes)
 }
 
@@ -78,14 +69,8 @@ pub fn wrap(
         (λ s. wrap s block n.0 prefix.0 flag)
         result table.new }
 {
-    let first = c.append(table, text, prefix, n);
-    let Made::Node(c, n) = first else {
-        return first;
-    };
-    let second = nested(c, table, text, block, n, flag);
-    let Made::Node(c, n) = second else {
-        return second;
-    };
+    let (c, n) = c.append(table, text, prefix, n)?;
+    let (c, n) = nested(c, table, text, block, n, flag)?;
     c.group(table, text, n)
 }
 
@@ -113,14 +98,11 @@ pub fn wraps(
     let mut i = prefixes.len();
     while 0 < i {
         i -= 1;
-        let made = wrap(c, table, text, block, n, NodeNo(prefixes[i]), nests[i]);
-        let Made::Node(next, m) = made else {
-            return made;
-        };
+        let (next, m) = wrap(c, table, text, block, n, NodeNo(prefixes[i]), nests[i])?;
         c = next;
         n = m;
     }
-    Made::Node(c, n)
+    Ok((c, n))
 }
 
 // Head joined to Tail, where "before" is the first `split` affixes.
@@ -142,16 +124,10 @@ pub fn alternative(
         (λ s. alternative s block shared prefixes.now suffixes.now nests.now split)
         result table.new }
 {
-    let first = head(c, table, text, shared, &prefixes[..split]);
-    let Made::Node(c, front) = first else {
-        return first;
-    };
+    let (c, front) = head(c, table, text, shared, &prefixes[..split])?;
     let asked = bare(c, table, text, &prefixes[..split]);
-    let second = core(c, table, text, block, shared, asked, &suffixes[split..]);
-    let Made::Node(c, middle) = second else {
-        return second;
-    };
-    let third = wraps(
+    let (c, middle) = core(c, table, text, block, shared, asked, &suffixes[split..])?;
+    let (c, wrapped) = wraps(
         c,
         table,
         text,
@@ -159,13 +135,7 @@ pub fn alternative(
         middle,
         &prefixes[split..],
         &nests[split..],
-    );
-    let Made::Node(c, wrapped) = third else {
-        return third;
-    };
-    let fourth = tail(c, table, text, shared, wrapped, &suffixes[..split]);
-    let Made::Node(c, back) = fourth else {
-        return fourth;
-    };
+    )?;
+    let (c, back) = tail(c, table, text, shared, wrapped, &suffixes[..split])?;
     c.append(table, text, front, back)
 }

@@ -12,8 +12,8 @@ use lib.ListN.{length, take, drop}
 use Rattle.table.specs.Document.{Doc, nil, hardline}
 use Rattle.table.specs.declared.NodeNo.{NodeNo}
 use Rattle.build.specs.declared.Counts.{Counts}
-use Rattle.build.specs.declared.Made.{Made}
-use Rattle.build.specs.declared.Made.TheVariants.{Node}
+use Rattle.build.specs.Outcome.{Made}
+use Rattle.std.specs.Prelude.{Ok}
 use Rattle.build.specs.Documents.{append_doc, joined_doc, concat_doc}
 use Rattle.build.specs.Promise.{ValidSoFar}
 use Rattle.buffer.specs.Parts.{between, index_of, lines, LineEnds, body_end}
@@ -95,7 +95,7 @@ none_lined input v s = record { valid = v; shares = s; said = nil; is = s.none; 
 module _ {shared : Shared} {input : List ℕ} {at : ℕ} {c : Counts} {t x : List ℕ} {n : NodeNo} (l : Lining shared input at c t x n) where
   pub one_lined : {end : ℕ} → LineEnds input at end → at < length input
       → {r : Made} {t' x' : List ℕ} → ((d : Doc) → Shares c t x shared → Is c t x n d → Gives c t x r t' x' (append_doc d (part_doc (between input at end))))
-      → {c' : Counts} {n' : NodeNo} → r ≡ Node c' n' → Lining shared input (end + 1) c' t' x' n'
+      → {c' : Counts} {n' : NodeNo} → r ≡ Ok (c' , n') → Lining shared input (end + 1) c' t' x' n'
   unfolding joined_doc
   one_lined {end} e h adds {c'} {n'} is =
       let b = adds l.said l.shares l.is c' n' is l.valid in

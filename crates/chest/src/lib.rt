@@ -22,23 +22,21 @@ use footer::footer;
 use results::{Line, parse};
 use row::row;
 use table::NodeNo;
-use words::start::{Start, share};
+use words::start::share;
 use words::{Shared, WIDTH, filled};
 
-// All lines with how many they are, or the first that doesn't fit and why.
+// What has no room, and why: the first line that doesn't fit, or the footer behind the last.
 #[derive(Clone, Copy)]
-enum Lines {
-    Added(Counts, NodeNo, usize),
-    Full(usize, Why),
+pub enum NoRoom {
+    Line(usize, Why),
+    Footer(usize, Why),
 }
 
-// The sheet; or the first line that doesn't fit, or the last where the footer doesn't, and why.
-#[derive(Clone, Copy)]
-pub enum Built {
-    Sheet(Counts, NodeNo),
-    Full(usize, Why),
-    NoFooter(usize, Why),
-}
+// The sheet's node with the counts, or what has no room.
+pub type Built = Result<(Counts, NodeNo), NoRoom>;
+
+// All lines with how many they are, or the first that doesn't fit.
+type Lines = Result<(Counts, NodeNo, usize), NoRoom>;
 
 // A heading, filled.
 fn heading(c: Counts, table: &mut [u32], text: &mut [u8], shared: Shared, s: &[u8]) -> Made
@@ -48,10 +46,7 @@ fn heading(c: Counts, table: &mut [u32], text: &mut [u8], shared: Shared, s: &[u
         (append_doc (filled_doc width s.now) document.hardline) }
 {
     let hardline = shared.hardline;
-    let made = filled(c, table, text, shared, s, WIDTH);
-    let Made::Node(c, n) = made else {
-        return made;
-    };
+    let (c, n) = filled(c, table, text, shared, s, WIDTH)?;
     c.append(table, text, n, hardline)
 }
 
@@ -68,8 +63,8 @@ fn part(c: Counts, table: &mut [u32], text: &mut [u8], shared: Shared, line: &[u
     match says {
         Line::Row(p) => row(c, table, text, shared, line, p),
         Line::Heading => heading(c, table, text, shared, behind(line, 1)),
-        Line::Empty => Made::Node(c, hardline),
-        Line::Bad(_) => Made::Node(c, none),
+        Line::Empty => Ok((c, hardline)),
+        Line::Bad(_) => Ok((c, none)),
     }
 }
 
@@ -90,10 +85,7 @@ fn added(
         (append_doc d (part_doc line.now)) }
 {
     let body = body_end(line);
-    let made = part(c, table, text, shared, &line[..body]);
-    let Made::Node(c, one) = made else {
-        return made;
-    };
+    let (c, one) = part(c, table, text, shared, &line[..body])?;
     c.append(table, text, n, one)
 }
 
@@ -112,17 +104,11 @@ fn add_lines(c: Counts, table: &mut [u32], text: &mut [u8], shared: Shared, inpu
         let made = added(c, table, text, shared, n, &input[at..end]);
         line += 1;
         at = end + 1;
-        match made {
-            Made::Refused(why) => {
-                return Lines::Full(line, why);
-            }
-            Made::Node(next, joined) => {
-                c = next;
-                n = joined;
-            }
-        }
+        let (next, joined) = made.map_err(|why| NoRoom::Line(line, why))?;
+        c = next;
+        n = joined;
     }
-    Lines::Added(c, n, line)
+    Ok((c, n, line))
 }
 
 // The sheet with its footer.
@@ -141,10 +127,7 @@ fn footed(
         result table.new text.new
         (append_doc d (footer_doc (lines input.now))) }
 {
-    let made = footer(c, table, text, shared, input);
-    let Made::Node(c, last) = made else {
-        return made;
-    };
+    let (c, last) = footer(c, table, text, shared, input)?;
     c.append(table, text, n, last)
 }
 
@@ -154,26 +137,14 @@ fn whole(c: Counts, table: &mut [u32], text: &mut [u8], shared: Shared, input: &
         → Shares c table.old text.old shared
         → Shows input.now result table.new text.new }
 {
-    let lines = add_lines(c, table, text, shared, input);
-    match lines {
-        Lines::Full(line, why) => Built::Full(line, why),
-        Lines::Added(c, n, last) => {
-            let made = footed(c, table, text, shared, n, input);
-            match made {
-                Made::Refused(why) => Built::NoFooter(last, why),
-                Made::Node(c, n) => Built::Sheet(c, n),
-            }
-        }
-    }
+    let (c, n, last) = add_lines(c, table, text, shared, input)?;
+    footed(c, table, text, shared, n, input).map_err(|why| NoRoom::Footer(last, why))
 }
 
 // The sheet of an input without faults; a line at fault adds nothing. Line 0 is the one that doesn't fit where not even the shared nodes do.
 pub fn build(input: &[u8], table: &mut [u32], text: &mut [u8]) -> Built
     ensures { Shows input.now result table.new text.new }
 {
-    let start = share(table, text);
-    match start {
-        Start::Full(why) => Built::Full(0, why),
-        Start::Ready(c, shared) => whole(c, table, text, shared, input),
-    }
+    let (c, shared) = share(table, text).map_err(|why| NoRoom::Line(0, why))?;
+    whole(c, table, text, shared, input)
 }

@@ -14,7 +14,7 @@ use borrow.Author.Tests.{eq-eqb, ne_eqb}
 use Rattle.table.specs.Document.{Doc, nil, hardline}
 use Rattle.table.specs.declared.NodeNo.{NodeNo}
 use Rattle.build.specs.declared.Counts.{Counts}
-use Rattle.build.specs.declared.Made.{Made}
+use Rattle.build.specs.Outcome.{Made}
 use Rattle.build.specs.Outcome.{outcome}
 use Rattle.build.specs.Documents.{concat_doc, intersperse_doc}
 use Rattle.build.specs.Promise.{doc_at}

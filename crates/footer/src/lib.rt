@@ -63,10 +63,7 @@ fn comma(c: Counts, table: &mut [u32], text: &mut [u8], softline: NodeNo) -> Mad
         result table.new text.new
         comma_doc }
 {
-    let made = leaf(c, table, text, b",");
-    let Made::Node(c, n) = made else {
-        return made;
-    };
+    let (c, n) = leaf(c, table, text, b",")?;
     c.append(table, text, n, softline)
 }
 
@@ -92,18 +89,15 @@ fn notes(
     while at < input.len() {
         let next = next_out(input, at);
         let Next::Found(start, end, feed) = next else {
-            return Made::Node(c, n);
+            return Ok((c, n));
         };
-        let made = add_word(c, table, text, n, between, &input[start..end]);
-        let Made::Node(after, joined) = made else {
-            return made;
-        };
+        let (after, joined) = add_word(c, table, text, n, between, &input[start..end])?;
         c = after;
         n = joined;
         between = comma;
         at = feed + 1;
     }
-    Made::Node(c, n)
+    Ok((c, n))
 }
 
 // The block of a heading and these notes, which start on a line of their own where they don't fit behind it.
@@ -117,14 +111,8 @@ fn blocked(c: Counts, table: &mut [u32], text: &mut [u8], shared: Shared, notes:
 {
     let none = shared.none;
     let line = shared.line;
-    let made = c.append(table, text, line, notes);
-    let Made::Node(c, body) = made else {
-        return made;
-    };
-    let made = leaf(c, table, text, b"Out of tolerance:");
-    let Made::Node(c, heading) = made else {
-        return made;
-    };
+    let (c, body) = c.append(table, text, line, notes)?;
+    let (c, heading) = leaf(c, table, text, b"Out of tolerance:")?;
     let prefixes = [heading.0];
     let suffixes = [none.0];
     let nests = [true];
@@ -145,14 +133,8 @@ fn named(c: Counts, table: &mut [u32], text: &mut [u8], shared: Shared, input: &
 {
     let none = shared.none;
     let softline = shared.softline;
-    let made = comma(c, table, text, softline);
-    let Made::Node(c, between) = made else {
-        return made;
-    };
-    let made = notes(c, table, text, none, between, input);
-    let Made::Node(c, n) = made else {
-        return made;
-    };
+    let (c, between) = comma(c, table, text, softline)?;
+    let (c, n) = notes(c, table, text, none, between, input)?;
     blocked(c, table, text, shared, n)
 }
 
@@ -189,12 +171,9 @@ pub fn footer(c: Counts, table: &mut [u32], text: &mut [u8], shared: Shared, inp
     let hardline = shared.hardline;
     let tally = count(input);
     if tally.rows == 0 {
-        return Made::Node(c, none);
+        return Ok((c, none));
     }
-    let made = said(c, table, text, shared, input, tally.rows, tally.out);
-    let Made::Node(c, n) = made else {
-        return made;
-    };
+    let (c, n) = said(c, table, text, shared, input, tally.rows, tally.out)?;
     let nodes = [hardline.0, n.0, hardline.0];
     c.concat(table, text, &nodes)
 }

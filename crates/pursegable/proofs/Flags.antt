@@ -9,11 +9,11 @@ use lib.Dec.{eqb, leb}
 use lib.ListN.{length, take, drop, set, get_or}
 use borrow.Author.Tests.{leb-true, ne_eqb}
 use Rattle.build.specs.declared.Counts.{Counts}
-use Rattle.build.specs.declared.Made.{Made}
+use Rattle.build.specs.Outcome.{Made}
 use Rattle.build.specs.Draft.{counts_of}
 use Rattle.build.specs.Outcome.{Outcome, outcome}
 use Rattle.build.specs.declared.Why.TheVariants.{Sizes}
-use Rattle.build.specs.declared.Made.TheVariants.{Refused}
+use Rattle.std.specs.Prelude.{Err}
 use Rattle.block.specs.declared.Block.{Block}
 use Rattle.block.specs.Block.{sizes_right, format_made}
 use Rattle.block.proofs.Alternatives.{format_sizes}
@@ -56,7 +56,7 @@ module _ (b : Block) (prefixes suffixes nests t x cs : List ℕ) where
   pub block_many : counts_words ≤ length cs → 8 < length nests → left 1 t x cs ≡ built made t x cs
   block_many h k =
       let many : 8 < length (flags_of nests) = rw (length-flags nests) k in
-      built-left made t x cs {made = Refused Sizes} h refl
+      built-left made t x cs {made = Err Sizes} h refl
       (format_sizes _ t x b prefixes suffixes (flags_of nests) (flags_many (length prefixes) (length suffixes) (length (flags_of nests)) many))
       (refl, refl)
 

@@ -13,7 +13,7 @@ use borrow.Author.Tests.{lt-leb, le-leb, ne_eqb}
 use lib.ListN.{length, get_or, set, drop}
 use Rattle.choice.specs.Pick.{pick}
 use Rattle.build.specs.declared.Counts.{Counts}
-use Rattle.build.specs.declared.Made.{Made}
+use Rattle.build.specs.Outcome.{Made}
 use Rattle.build.specs.Draft.{counts_of}
 use Rattle.build.specs.Outcome.{Outcome, outcome}
 use Rattle.build.specs.Constructors.{enclose_made}

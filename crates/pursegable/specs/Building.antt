@@ -3,8 +3,8 @@
 use Rattle.std.specs.Prelude.{ℕ, Bool, not, ◌&&◌, List, [], ◌∷◌, eqb, leb, length, get_or, drop}
 use Rattle.choice.specs.Pick.{pick}
 use Rattle.build.specs.declared.Counts.{Counts}
-use Rattle.build.specs.declared.Made.{Made}
-use Rattle.build.specs.declared.Made.TheVariants.{Node, Refused}
+use Rattle.build.specs.Outcome.{Made}
+use Rattle.std.specs.Prelude.{Ok, Err}
 use Rattle.build.specs.Draft.{counts_of}
 use Rattle.build.specs.Outcome.{Outcome, number}
 use Rattle.build.specs.Constructors as c
@@ -25,13 +25,13 @@ abbrev pub left : ℕ → List ℕ → List ℕ → List ℕ → Left
 left answer table text counts = record { answer = answer; table = table; text = text; counts = counts }
 
 abbrev pub answer_of : Made → ℕ
-answer_of (Node c n) = 0
-answer_of (Refused why) = number why
+answer_of (Ok (c , n)) = 0
+answer_of (Err why) = number why
 
 -- a refusal leaves them; words past the third are left in any case
 abbrev pub counts_after : Made → List ℕ → List ℕ
-counts_after (Node c n) counts = c.nodes ∷ c.bytes ∷ n.0 ∷ drop counts_words counts
-counts_after (Refused why) counts = counts
+counts_after (Ok (c , n)) counts = c.nodes ∷ c.bytes ∷ n.0 ∷ drop counts_words counts
+counts_after (Err why) counts = counts
 
 abbrev pub left_by : Outcome → List ℕ → Left
 left_by o counts = left (answer_of o.made) o.table o.text (counts_after o.made counts)

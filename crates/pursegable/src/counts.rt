@@ -39,12 +39,12 @@ pub fn settle(made: Made, counts: &mut [u32]) -> u32
     ensures { (result ≡ answer_of made) × (counts.new ≡ counts_after made counts.old) }
 {
     match made {
-        Made::Node(c, n) => {
+        Ok((c, n)) => {
             counts[0] = c.nodes;
             counts[1] = c.bytes;
             counts[2] = n.0;
             0
         }
-        Made::Refused(why) => number(why),
+        Err(why) => number(why),
     }
 }

@@ -69,17 +69,11 @@ pub fn row(
 {
     let mut space = [32u8; 64];
     let n = put_row(&mut space, line, p);
-    let made = leaf(c, table, text, front(&space, n));
-    let Made::Node(c, fixed) = made else {
-        return made;
-    };
-    let made = ended(c, table, text, shared, fixed, line, p.remark);
+    let (c, fixed) = leaf(c, table, text, front(&space, n))?;
+    let (c, n) = ended(c, table, text, shared, fixed, line, p.remark)?;
     let mark = label(p.grams, p.tenths);
     if mark == 0 {
-        return made;
+        return Ok((c, n));
     }
-    let Made::Node(c, n) = made else {
-        return made;
-    };
     c.annotate(table, text, n, mark)
 }

@@ -31,10 +31,7 @@ fn beside(
 {
     let mut space = [32u8; 256];
     let n = put(&mut space, 2, says);
-    let made = leaf(c, table, text, front(&space, n));
-    let Made::Node(c, one) = made else {
-        return made;
-    };
+    let (c, one) = leaf(c, table, text, front(&space, n))?;
     let nodes = [fixed.0, one.0, shared.hardline.0];
     c.concat(table, text, &nodes)
 }
@@ -47,14 +44,8 @@ fn lower(c: Counts, table: &mut [u32], text: &mut [u8], shared: Shared, says: &[
         (lower_doc says.now) }
 {
     let hardline = shared.hardline;
-    let made = filled(c, table, text, shared, says, WRAPPED);
-    let Made::Node(c, words) = made else {
-        return made;
-    };
-    let made = c.append(table, text, hardline, words);
-    let Made::Node(c, lines) = made else {
-        return made;
-    };
+    let (c, words) = filled(c, table, text, shared, says, WRAPPED)?;
+    let (c, lines) = c.append(table, text, hardline, words)?;
     c.nest(table, text, lines, Indent(BELOW), 0)
 }
 
@@ -74,10 +65,7 @@ fn below(
         result table.new text.new
         (below_doc d says.now) }
 {
-    let made = lower(c, table, text, shared, says);
-    let Made::Node(c, one) = made else {
-        return made;
-    };
+    let (c, one) = lower(c, table, text, shared, says)?;
     let nodes = [fixed.0, one.0, shared.hardline.0];
     c.concat(table, text, &nodes)
 }
@@ -99,14 +87,8 @@ fn remarked(
         result table.new text.new
         (union (beside_doc d says.now) (below_doc d says.now)) }
 {
-    let made = beside(c, table, text, shared, fixed, says);
-    let Made::Node(c, first) = made else {
-        return made;
-    };
-    let made = below(c, table, text, shared, fixed, says);
-    let Made::Node(c, second) = made else {
-        return made;
-    };
+    let (c, first) = beside(c, table, text, shared, fixed, says)?;
+    let (c, second) = below(c, table, text, shared, fixed, says)?;
     c.union(table, text, first, second)
 }
 

@@ -14,14 +14,8 @@ fn after_line(
     columns: u32,
     hard: bool,
 ) -> Made {
-    let first = broken(c, table, text, hard);
-    let Made::Node(c, line) = first else {
-        return first;
-    };
-    let second = c.text(table, text, bytes, Column(columns));
-    let Made::Node(c, word) = second else {
-        return second;
-    };
+    let (c, line) = broken(c, table, text, hard)?;
+    let (c, word) = c.text(table, text, bytes, Column(columns))?;
     c.append(table, text, line, word)
 }
 
@@ -43,14 +37,8 @@ fn closed(
     brace: NodeNo,
     none: NodeNo,
 ) -> Made {
-    let made = after_line(c, table, text, b"result: x + y - z", 17, false);
-    let Made::Node(c, body) = made else {
-        return made;
-    };
-    let made = after_line(c, table, text, b"}", 1, false);
-    let Made::Node(c, close) = made else {
-        return made;
-    };
+    let (c, body) = after_line(c, table, text, b"result: x + y - z", 17, false)?;
+    let (c, close) = after_line(c, table, text, b"}", 1, false)?;
     let prefixes = [outer.0, inner.0, brace.0];
     let suffixes = [none.0, none.0, close.0];
     let nests = [true, true, true];
@@ -71,28 +59,16 @@ fn opened(
     inner: NodeNo,
     hard: bool,
 ) -> Made {
-    let made = after_line(c, table, text, b"{", 1, hard);
-    let Made::Node(c, brace) = made else {
-        return made;
-    };
-    let made = c.nil(table, text);
-    let Made::Node(c, none) = made else {
-        return made;
-    };
+    let (c, brace) = after_line(c, table, text, b"{", 1, hard)?;
+    let (c, none) = c.nil(table, text)?;
     closed(c, table, text, outer, inner, brace, none)
 }
 
 // The block: a body in braces under two binders.
 fn built(table: &mut [u32], text: &mut [u8], hard: bool) -> Made {
     let c = Counts { nodes: 0, bytes: 0 };
-    let made = c.text(table, text, b"\\x y ->", Column(7));
-    let Made::Node(c, outer) = made else {
-        return made;
-    };
-    let made = after_line(c, table, text, b"\\z ->", 5, false);
-    let Made::Node(c, inner) = made else {
-        return made;
-    };
+    let (c, outer) = c.text(table, text, b"\\x y ->", Column(7))?;
+    let (c, inner) = after_line(c, table, text, b"\\z ->", 5, false)?;
     opened(c, table, text, outer, inner, hard)
 }
 
@@ -101,7 +77,7 @@ fn sample<W: Write>(print: &mut W, hard: bool, width: u32) -> io::Result<()> {
     let mut table = [0u32; 1024];
     let mut text = [0u8; 64];
     let made = built(&mut table, &mut text, hard);
-    let Made::Node(_, n) = made else {
+    let Ok((_, n)) = made else {
         return print.write_all(b"refused\n");
     };
     let node = n.0 as usize;

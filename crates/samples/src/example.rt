@@ -4,26 +4,20 @@ use std::io;
 use std::io::Write;
 use table::Column;
 
+// The document's counts: two words with a softline between them.
+fn built(table: &mut [u32], text: &mut [u8]) -> Made {
+    let c = Counts { nodes: 0, bytes: 0 };
+    let (c, note) = c.text(table, text, b"Fis", Column(3))?;
+    let (c, blank) = c.softline(table, text)?;
+    let (c, remark) = c.text(table, text, b"neu beledern", Column(12))?;
+    c.concat(table, text, &[note.0, blank.0, remark.0])
+}
+
 // Builds the three nodes, lays them out and writes them.
 pub fn example<W: Write>(print: &mut W) -> io::Result<()> {
     let mut table = [0u32; 64];
     let mut text = [0u8; 64];
-    let c = Counts { nodes: 0, bytes: 0 };
-    let made = c.text(&mut table, &mut text, b"Fis", Column(3));
-    let Made::Node(c, note) = made else {
-        return Ok(());
-    };
-    let made = c.softline(&mut table, &mut text);
-    let Made::Node(c, blank) = made else {
-        return Ok(());
-    };
-    let made = c.text(&mut table, &mut text, b"neu beledern", Column(12));
-    let Made::Node(c, remark) = made else {
-        return Ok(());
-    };
-    let nodes = [note.0, blank.0, remark.0];
-    let made = c.concat(&mut table, &text, &nodes);
-    let Made::Node(c, _) = made else {
+    let Ok((c, _)) = built(&mut table, &mut text) else {
         return Ok(());
     };
     let words = c.nodes as usize * 4;

@@ -6,7 +6,7 @@
 
 use buffer::parts::{front, line_end};
 use build::Why;
-use chest::Built;
+use chest::NoRoom;
 use results::Fault;
 use results::input::Checked;
 use rules::EVENT_WORDS;
@@ -182,19 +182,19 @@ pub fn run<P: Write, T: Write>(input: &[u8], print: &mut P, tell: &mut T) -> boo
     let mut text = [0u8; 65536];
     let built = chest::build(input, &mut table, &mut text);
     match built {
-        Built::Full(line, why) => {
+        Err(NoRoom::Line(line, why)) => {
             tell_line(tell, line);
             wrote(tell, b"this is the first line that");
             tell_full(tell, why);
             false
         }
-        Built::NoFooter(line, why) => {
+        Err(NoRoom::Footer(line, why)) => {
             tell_line(tell, line);
             wrote(tell, b"the footer after this last line");
             tell_full(tell, why);
             false
         }
-        Built::Sheet(c, n) => {
+        Ok((c, n)) => {
             let words = n.0 as usize * 4 + 4;
             let bytes = c.bytes as usize;
             lay_out(words_front(&table, words), front(&text, bytes), print, tell)

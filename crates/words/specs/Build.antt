@@ -3,7 +3,7 @@ use Rattle.std.specs.Prelude.{ℕ, ◌<◌, ◌≡◌, List}
 use Rattle.table.specs.Document.{Doc, nil, hardline}
 use Rattle.table.specs.declared.NodeNo.{NodeNo}
 use Rattle.build.specs.declared.Counts.{Counts}
-use Rattle.build.specs.declared.Made.{Made}
+use Rattle.build.specs.Outcome.{Made}
 use Rattle.build.specs.Outcome.{outcome}
 use Rattle.build.specs.Documents.{line_doc, softline_doc}
 use Rattle.build.specs.Promise.{doc_at, Promise}

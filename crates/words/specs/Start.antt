@@ -1,13 +1,11 @@
 -- The nodes that all share: the constructors that make them, one after the other, and what stands once all are made.
-use Rattle.std.specs.Prelude.{ℕ, List}
+use Rattle.std.specs.Prelude.{ℕ, List, Result, Ok, Err}
 use Rattle.build.specs.declared.Counts.{Counts}
-use Rattle.build.specs.declared.Made.{Made}
-use Rattle.build.specs.declared.Made.TheVariants.{Node, Refused}
-use Rattle.build.specs.Outcome.{Outcome, onward}
+use Rattle.build.specs.Outcome.{Made, Outcome, onward}
 use Rattle.build.specs.Constructors.{nil_made, hardline_made, line_made, group_made}
 use Rattle.build.specs.Promise.{ValidSoFar}
-use Rattle.words.specs.declared.start.Start.{Start}
-use Rattle.words.specs.declared.start.Start.TheVariants.{Ready, Full}
+use Rattle.build.specs.declared.Why.{Why}
+use Rattle.words.specs.declared.Shared.{Shared}
 use Rattle.words.specs.Build.{Shares}
 
 -- the next constructor, over what one left; a refusal ends the chain
@@ -33,12 +31,16 @@ feed_of c _ table text = next (hardline_made c table text) breaks_of
 unfoldable pub sharing : List ℕ → List ℕ → Outcome
 sharing table text = next (nil_made (record { nodes = 0; bytes = 0 }) table text) feed_of
 
+-- the counts and the shared nodes, or why there is no room for all of them
+abbrev pub Start : Type 0
+Start = Result (Counts × Shared) Why
+
 -- the last node made, or the refusal
 abbrev pub answer : Start → Made
-answer (Ready c shared) = Node c shared.softline
-answer (Full why) = Refused why
+answer (Ok (c , shared)) = Ok (c , shared.softline)
+answer (Err why) = Err why
 
 -- the shared nodes, over a valid table
 abbrev pub Started : Start → List ℕ → List ℕ → Type 0
-Started (Ready c shared) table text = ValidSoFar c table text × Shares c table text shared
-Started (Full why) table text = Unit {0}
+Started (Ok (c , shared)) table text = ValidSoFar c table text × Shares c table text shared
+Started (Err why) table text = Unit {0}

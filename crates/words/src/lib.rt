@@ -96,7 +96,7 @@ pub fn leaf(c: Counts, table: &mut [u32], text: &mut [u8], bytes: &[u8]) -> Made
 {
     let wide = columns(bytes);
     if 65536 < wide {
-        return Made::Refused(Why::Bytes);
+        return Err(Why::Bytes);
     }
     c.text(table, text, bytes, Column(wide as u32))
 }
@@ -117,14 +117,8 @@ pub fn add_word(
         result table.new text.new
         (append_doc (append_doc d e) (leaf_doc bytes.now)) }
 {
-    let made = c.append(table, text, n, between);
-    let Made::Node(c, n) = made else {
-        return made;
-    };
-    let made = leaf(c, table, text, bytes);
-    let Made::Node(c, word) = made else {
-        return made;
-    };
+    let (c, n) = c.append(table, text, n, between)?;
+    let (c, word) = leaf(c, table, text, bytes)?;
     c.append(table, text, n, word)
 }
 
@@ -150,14 +144,11 @@ pub fn filled(
     while at < s.len() {
         let size = together(&s[at..], most);
         let end = at + size;
-        let made = add_word(c, table, text, n, between, &s[at..end]);
-        let Made::Node(next, joined) = made else {
-            return made;
-        };
+        let (next, joined) = add_word(c, table, text, n, between, &s[at..end])?;
         c = next;
         n = joined;
         between = softline;
         at = skip(s, end);
     }
-    Made::Node(c, n)
+    Ok((c, n))
 }

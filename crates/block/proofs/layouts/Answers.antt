@@ -4,34 +4,34 @@ use native.Mathlib.Omega.{arith}
 use Rattle.block.proofs.Starts.{start_stop₁, start_stop₂, start_stop₃, start_asks₄, start_stop₄, start_asks₅, start_last}
 use Rattle.block.proofs.layouts.Goals as goal
 
-pub returns-in_default : goal.returns-in_default
-returns-in_default c =
-    start_stop₁ c.requires.0 c.requires.1 c.nil-first.ensures c.in_default.is
+pub returns-in_err-c : goal.returns-in_err-c
+returns-in_err-c c =
+    start_stop₁ c.requires.0 c.requires.1 c.nil.ensures c.in_err-c.was
 
-pub returns-in_default-second : goal.returns-in_default-second
-returns-in_default-second c =
-    start_stop₂ c.requires.0 c.requires.1 c.nil-first.ensures c.in-Node.is c.fail-second.ensures
-    c.in_default-second.is
+pub returns-in_err-c-2 : goal.returns-in_err-c-2
+returns-in_err-c-2 c =
+    start_stop₂ c.requires.0 c.requires.1 c.nil.ensures c.in_ok-c.was c.fail.ensures
+    c.in_err-c-2.was
 
-pub returns-in_default-third : goal.returns-in_default-third
-returns-in_default-third c =
-    start_stop₃ c.requires.0 c.requires.1 c.nil-first.ensures c.in-Node.is c.fail-second.ensures
-    c.in-Node-second.is c.flat_alt-third.ensures c.in_default-third.is
+pub returns-in_err-c-3 : goal.returns-in_err-c-3
+returns-in_err-c-3 c =
+    start_stop₃ c.requires.0 c.requires.1 c.nil.ensures c.in_ok-c.was c.fail.ensures
+    c.in_ok-c-2.was c.flat_alt.ensures c.in_err-c-3.was
 
-pub alternative-fourth-requires : goal.alternative-fourth-requires
-alternative-fourth-requires c =
-    start_asks₄ c.requires.0 c.requires.1 c.nil-first.ensures c.in-Node.is c.fail-second.ensures
-    c.in-Node-second.is c.flat_alt-third.ensures c.in-Node-third.is
+pub alternative-requires : goal.alternative-requires
+alternative-requires c =
+    start_asks₄ c.requires.0 c.requires.1 c.nil.ensures c.in_ok-c.was c.fail.ensures
+    c.in_ok-c-2.was c.flat_alt.ensures c.in_ok-c-3.was
 
 pub shape_of-table-in_default-fourth : goal.shape_of-table-in_default-fourth
 shape_of-table-in_default-fourth c =
-    c.alternative-fourth.auto.table ∙ c.flat_alt-third.auto.table ∙ c.fail-second.auto.table ∙ c.nil-first.auto.table
+    c.alternative.auto.table ∙ c.flat_alt.auto.table ∙ c.fail.auto.table ∙ c.nil.auto.table
 
-pub returns-in_default-fourth : goal.returns-in_default-fourth
-returns-in_default-fourth c =
-    start_stop₄ c.requires.0 c.requires.1 c.nil-first.ensures c.in-Node.is c.fail-second.ensures
-    c.in-Node-second.is c.flat_alt-third.ensures c.in-Node-third.is c.alternative-fourth.ensures
-    c.in_default-fourth.is
+pub returns-in_err-c-4 : goal.returns-in_err-c-4
+returns-in_err-c-4 c =
+    start_stop₄ c.requires.0 c.requires.1 c.nil.ensures c.in_ok-c.was c.fail.ensures
+    c.in_ok-c-2.was c.flat_alt.ensures c.in_ok-c-3.was c.alternative.ensures
+    c.in_err-c-4.was
 
 pub overflow_sub-all : goal.overflow_sub-all
 overflow_sub-all c =
@@ -40,20 +40,20 @@ overflow_sub-all c =
 
 pub unions-requires : goal.unions-requires
 unions-requires c =
-    start_asks₅ c.requires.0 c.requires.1 c.nil-first.ensures c.in-Node.is c.fail-second.ensures
-    c.in-Node-second.is c.flat_alt-third.ensures c.in-Node-third.is c.alternative-fourth.ensures
-    c.in-Node-fourth.is
+    start_asks₅ c.requires.0 c.requires.1 c.nil.ensures c.in_ok-c.was c.fail.ensures
+    c.in_ok-c-2.was c.flat_alt.ensures c.in_ok-c-3.was c.alternative.ensures
+    c.in_ok-c-4.was
 
 pub shape_of-table : goal.shape_of-table
 shape_of-table c =
     c.unions.auto.table
-    ∙ c.alternative-fourth.auto.table
-    ∙ c.flat_alt-third.auto.table
-    ∙ c.fail-second.auto.table
-    ∙ c.nil-first.auto.table
+    ∙ c.alternative.auto.table
+    ∙ c.flat_alt.auto.table
+    ∙ c.fail.auto.table
+    ∙ c.nil.auto.table
 
 pub returns : goal.returns
 returns c =
-    start_last c.requires.0 c.requires.1 c.nil-first.ensures c.in-Node.is c.fail-second.ensures
-    c.in-Node-second.is c.flat_alt-third.ensures c.in-Node-third.is c.alternative-fourth.ensures
-    c.in-Node-fourth.is c.unions.ensures
+    start_last c.requires.0 c.requires.1 c.nil.ensures c.in_ok-c.was c.fail.ensures
+    c.in_ok-c-2.was c.flat_alt.ensures c.in_ok-c-3.was c.alternative.ensures
+    c.in_ok-c-4.was c.unions.ensures

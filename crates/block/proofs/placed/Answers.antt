@@ -3,33 +3,33 @@ use native.Mathlib.Omega.{arith}
 use Rattle.block.proofs.Places.{own_ready, placed-stop, placed-short, placed_copies, placed_last}
 use Rattle.block.proofs.placed.Goals as goal
 
-pub layouts-made-requires : goal.layouts-made-requires
-layouts-made-requires c =
+pub layouts-requires : goal.layouts-requires
+layouts-requires c =
     (own_ready c.requires.0 c.requires.1 c.requires.2 c.copy_words.ensures, c.requires.1)
 
-pub returns-in_default : goal.returns-in_default
-returns-in_default c =
-    placed-stop c.requires.0 c.requires.1 c.requires.2 c.copy_words.ensures c.layouts-made.ensures
-    c.in_default.is
+pub returns-in_err-d : goal.returns-in_err-d
+returns-in_err-d c =
+    placed-stop c.requires.0 c.requires.1 c.requires.2 c.copy_words.ensures c.layouts.ensures
+    c.in_err-d.was
 
 pub returns-then-table-nodes : goal.returns-then-table-nodes
 returns-then-table-nodes c =
-    placed-short c.requires.0 c.requires.1 c.requires.2 c.copy_words.ensures c.layouts-made.ensures
-    c.in-Node.is c.if-table-nodes.true
+    placed-short c.requires.0 c.requires.1 c.requires.2 c.copy_words.ensures c.layouts.ensures
+    c.in_ok-d.was c.if-table-nodes.true
 
 pub overflow_sub-nodes : goal.overflow_sub-nodes
 overflow_sub-nodes c =
-    (placed_copies c.requires.0 c.requires.1 c.requires.2 c.copy_words.ensures c.layouts-made.ensures
-    c.in-Node.is c.if-table-nodes.false).0
+    (placed_copies c.requires.0 c.requires.1 c.requires.2 c.copy_words.ensures c.layouts.ensures
+    c.in_ok-d.was c.if-table-nodes.false).0
 
 pub copy_words-requires-2 : goal.copy_words-requires-2
 copy_words-requires-2 c =
     let x =
-    placed_copies c.requires.0 c.requires.1 c.requires.2 c.copy_words.ensures c.layouts-made.ensures
-    c.in-Node.is c.if-table-nodes.false in
+    placed_copies c.requires.0 c.requires.1 c.requires.2 c.copy_words.ensures c.layouts.ensures
+    c.in_ok-d.was c.if-table-nodes.false in
     (omega arith, omega arith)
 
 pub returns : goal.returns
 returns c =
-    placed_last c.requires.0 c.requires.1 c.requires.2 c.copy_words.ensures c.layouts-made.ensures
-    c.in-Node.is c.if-table-nodes.false c.copy_words-2.ensures
+    placed_last c.requires.0 c.requires.1 c.requires.2 c.copy_words.ensures c.layouts.ensures
+    c.in_ok-d.was c.if-table-nodes.false c.copy_words-2.ensures

@@ -9,30 +9,30 @@ loop-split-init c =
     let args = c.args in
     left-start c.requires.0 c.requires.1 args.nests.now args.n args.split c.requires.2.some c.requires.3
 
-pub alternative-made-requires : goal.alternative-made-requires
-alternative-made-requires c =
+pub alternative-requires : goal.alternative-requires
+alternative-requires c =
     let args = c.args in
     left_asks c.requires.0 c.requires.1 args.nests.now args.n args.split c.loop-split-test.true c.loop-split.invariant c.requires.2
 
 pub shape_of-table-in_default : goal.shape_of-table-in_default
 shape_of-table-in_default c =
-    c.alternative-made.auto.table ∙ same-words c.loop-split.invariant.place.stands
+    c.alternative.auto.table ∙ same-words c.loop-split.invariant.place.stands
 
-pub returns-in_default : goal.returns-in_default
-returns-in_default c =
+pub returns-in_err-next : goal.returns-in_err-next
+returns-in_err-next c =
     let args = c.args in
     left_stop₁ c.requires.0 c.requires.1 args.nests.now args.n args.split c.loop-split-test.true c.loop-split.invariant
-    c.alternative-made.ensures c.in_default.is
+    c.alternative.ensures c.in_err-next.was
 
 pub shape_of-table-in_default-joined : goal.shape_of-table-in_default-joined
 shape_of-table-in_default-joined c =
-    c.union-joined.auto.table ∙ c.alternative-made.auto.table ∙ same-words c.loop-split.invariant.place.stands
+    c.union.auto.table ∙ c.alternative.auto.table ∙ same-words c.loop-split.invariant.place.stands
 
-pub returns-in_default-joined : goal.returns-in_default-joined
-returns-in_default-joined c =
+pub returns-in_err-next-2 : goal.returns-in_err-next-2
+returns-in_err-next-2 c =
     let args = c.args in
     left_stop₂ c.requires.0 c.requires.1 args.nests.now args.n args.split c.loop-split-test.true c.loop-split.invariant
-    c.alternative-made.ensures c.in-Node.is c.union-joined.ensures c.in_default-joined.is
+    c.alternative.ensures c.in_ok-next.was c.union.ensures c.in_err-next-2.was
 
 pub overflow_sub-split : goal.overflow_sub-split
 overflow_sub-split c =
@@ -46,7 +46,7 @@ pub loop-split-preserved : goal.loop-split-preserved
 loop-split-preserved c =
     let args = c.args in
     left-next c.requires.0 c.requires.1 args.nests.now args.n args.split c.loop-split-test.true c.loop-split.invariant
-    c.alternative-made.ensures c.in-Node.is c.union-joined.ensures c.in-Node-joined.is
+    c.alternative.ensures c.in_ok-next.was c.union.ensures c.in_ok-next-2.was
 
 pub shape_of-table : goal.shape_of-table
 shape_of-table c = same-words c.loop-split.invariant.place.stands

@@ -14,11 +14,11 @@ pub slice_bounds-part-end : goal.slice_bounds-part-end
 slice_bounds-part-end c =
     sym (length-take-le _ _ (omega (arith, body-within c.args.line.now, c.body_end-body.ensures)))
 
-pub part-made-requires : goal.part-made-requires
-part-made-requires c = tt
+pub part-requires : goal.part-requires
+part-requires c = tt
 
-pub returns-in_default : goal.returns-in_default
-returns-in_default c = λ d s i. refused c.in_default.is
+pub returns-in_err-c : goal.returns-in_err-c
+returns-in_err-c c = λ d s i. refused c.in_err-c.was
 
 pub append-requires : goal.append-requires
 append-requires c = tt
@@ -27,6 +27,6 @@ pub returns : goal.returns
 returns c =
     λ d s i.
     after
-    (gives refl (part-is _ c.body_end-body.ensures) (c.part-made.ensures s))
-    c.in-Node.is
+    (gives refl (part-is _ c.body_end-body.ensures) (c.part.ensures s))
+    c.in_ok-c.was
     (λ b. appends (kept b i) (new b) c.append.ensures)

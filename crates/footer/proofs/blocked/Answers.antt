@@ -5,17 +5,17 @@ use Rattle.footer.proofs.Footing.{blocks}
 use Rattle.footer.specs.Documents.{headed_doc}
 use Rattle.footer.proofs.blocked.Goals as goal
 
-pub append-made-requires : goal.append-made-requires
-append-made-requires c = tt
+pub append-requires : goal.append-requires
+append-requires c = tt
 
-pub returns-in_default : goal.returns-in_default
-returns-in_default c = λ d s i. refused c.in_default.is
+pub returns-in_err-c : goal.returns-in_err-c
+returns-in_err-c c = λ d s i. refused c.in_err-c.was
 
-pub leaf-made-requires : goal.leaf-made-requires
-leaf-made-requires c = tt
+pub leaf-requires : goal.leaf-requires
+leaf-requires c = tt
 
-pub returns-in_default-made : goal.returns-in_default-made
-returns-in_default-made c = λ d s i. refused c.in_default-made.is
+pub returns-in_err-c-2 : goal.returns-in_err-c-2
+returns-in_err-c-2 c = λ d s i. refused c.in_err-c-2.was
 
 pub format-requires : goal.format-requires
 format-requires c = tt
@@ -25,6 +25,6 @@ unfolding headed_doc
 returns c =
     λ d s i.
     after
-    (appends s.line i c.append-made.ensures)
-    c.in-Node.is
-    (λ b. after c.leaf-made.ensures c.in-Node-made.is (λ q. blocks (kept q (new b)) (new q) (kept q (kept b s.none)) _ refl c.format.ensures))
+    (appends s.line i c.append.ensures)
+    c.in_ok-c.was
+    (λ b. after c.leaf.ensures c.in_ok-c-2.was (λ q. blocks (kept q (new b)) (new q) (kept q (kept b s.none)) _ refl c.format.ensures))

@@ -11,8 +11,8 @@ pub returns-then-tally-eq0 : goal.returns-then-tally-eq0
 returns-then-tally-eq0 c =
     λ s. gives refl (footer-none _ c.if-tally-eq0.true (cc)) (given s.none)
 
-pub returns-in_default : goal.returns-in_default
-returns-in_default c = λ s. refused c.in_default.is
+pub returns-in_err-c : goal.returns-in_err-c
+returns-in_err-c c = λ s. refused c.in_err-c.was
 
 pub concat-requires : goal.concat-requires
 concat-requires c = tt
@@ -23,4 +23,4 @@ returns c =
     gives
     refl
     (footer-some _ c.if-tally-eq0.false (cc))
-    (after (c.said-made.ensures s) c.in-Node.is (λ b. joins (kept b s.hardline) (new b) (kept b s.hardline) c.concat.ensures))
+    (after (c.said.ensures s) c.in_ok-c.was (λ b. joins (kept b s.hardline) (new b) (kept b s.hardline) c.concat.ensures))

@@ -2,17 +2,17 @@
 use Rattle.words.proofs.Chain.{new, kept, shares-kept, after, refused}
 use Rattle.footer.proofs.named.Goals as goal
 
-pub comma-made-requires : goal.comma-made-requires
-comma-made-requires c = tt
+pub comma-requires : goal.comma-requires
+comma-requires c = tt
 
-pub returns-in_default : goal.returns-in_default
-returns-in_default c = λ s. refused c.in_default.is
+pub returns-in_err-c : goal.returns-in_err-c
+returns-in_err-c c = λ s. refused c.in_err-c.was
 
-pub notes-made-requires : goal.notes-made-requires
-notes-made-requires c = tt
+pub notes-requires : goal.notes-requires
+notes-requires c = tt
 
-pub returns-in_default-made : goal.returns-in_default-made
-returns-in_default-made c = λ s. refused c.in_default-made.is
+pub returns-in_err-c-2 : goal.returns-in_err-c-2
+returns-in_err-c-2 c = λ s. refused c.in_err-c-2.was
 
 pub blocked-requires : goal.blocked-requires
 blocked-requires c = tt
@@ -21,6 +21,6 @@ pub returns : goal.returns
 returns c =
     λ s.
     after
-    (c.comma-made.ensures s.softline)
-    c.in-Node.is
-    (λ b. after (c.notes-made.ensures (kept b s.none) (new b)) c.in-Node-made.is (λ q. c.blocked.ensures _ (shares-kept q (shares-kept b s)) (new q)))
+    (c.comma.ensures s.softline)
+    c.in_ok-c.was
+    (λ b. after (c.notes.ensures (kept b s.none) (new b)) c.in_ok-c-2.was (λ q. c.blocked.ensures _ (shares-kept q (shares-kept b s)) (new q)))

@@ -17,17 +17,17 @@ loop-at-init c =
 pub next_out-next-requires : goal.next_out-next-requires
 next_out-next-requires c = tt
 
-pub returns-in_default : goal.returns-in_default
-returns-in_default c =
-    λ i j. all-added (c.loop-at.invariant.2 i j) (no_more _ _ c.in_default.is c.next_out-next.ensures.1)
+pub returns-in_err-after : goal.returns-in_err-after
+returns-in_err-after c =
+    λ i j. all-added (c.loop-at.invariant.2 i j) (no_more _ _ c.in_err-after.was c.next_out-next.ensures.1)
 
 pub slice_bounds-add_word-count : goal.slice_bounds-add_word-count
 slice_bounds-add_word-count c =
     let f = first_of _ _ c.in-Found.is c.next_out-next.ensures.1 in
     omega (arith, f.note)
 
-pub add_word-made-requires : goal.add_word-made-requires
-add_word-made-requires c = tt
+pub add_word-requires : goal.add_word-requires
+add_word-requires c = tt
 
 pub returns-in_default-made : goal.returns-in_default-made
 returns-in_default-made c = λ i j. refused c.in_default-made.is
@@ -45,7 +45,7 @@ loop-at-smaller c =
 pub loop-at-preserved : goal.loop-at-preserved
 loop-at-preserved c =
     let f = first_of _ _ c.in-Found.is c.next_out-next.ensures.1 in
-    (search rules, search rules, λ i j. one-added (c.loop-at.invariant.2 i j) _ _ f.names c.add_word-made.ensures c.in-Node.is j)
+    (search rules, search rules, λ i j. one-added (c.loop-at.invariant.2 i j) _ _ f.names c.add_word.ensures c.in_ok-after.was j)
 
 pub returns : goal.returns
 returns c =

@@ -10,11 +10,11 @@ use Rattle.row.proofs.row.Goals as goal
 pub front-requires : goal.front-requires
 front-requires c = tt
 
-pub leaf-made-requires : goal.leaf-made-requires
-leaf-made-requires c = tt
+pub leaf-requires : goal.leaf-requires
+leaf-requires c = tt
 
-pub returns-in_default : goal.returns-in_default
-returns-in_default c = λ s. refused c.in_default.is
+pub returns-in_err-c : goal.returns-in_err-c
+returns-in_err-c c = λ s. refused c.in_err-c.was
 
 pub ended-made-requires : goal.ended-made-requires
 ended-made-requires c =
@@ -31,7 +31,7 @@ returns-then-mark-eq0 c =
     gives
     refl
     (marked-none c.label-mark.result _ c.label-mark.ensures _ c.if-mark-eq0.true)
-    (after (gives refl (ap leaf_doc is) c.leaf-made.ensures) c.in-Node.is (λ b. c.ended-made.ensures _ (shares-kept b s) (new b)))
+    (after (gives refl (ap leaf_doc is) c.leaf.ensures) c.in_ok-c.was (λ b. c.ended-made.ensures _ (shares-kept b s) (new b)))
 
 pub returns-in_default-made : goal.returns-in_default-made
 returns-in_default-made c = λ s. refused c.in_default-made.is
@@ -47,4 +47,4 @@ returns c =
     gives
     refl
     (marked-some c.label-mark.result _ c.label-mark.ensures _ c.if-mark-eq0.false)
-    (after (gives refl (ap leaf_doc is) c.leaf-made.ensures) c.in-Node.is (λ b. after (c.ended-made.ensures _ (shares-kept b s) (new b)) c.in-Node-made.is (λ q. annotates (new q) c.label-mark.result c.annotate.ensures)))
+    (after (gives refl (ap leaf_doc is) c.leaf.ensures) c.in_ok-c.was (λ b. after (c.ended-made.ensures _ (shares-kept b s) (new b)) c.in-Node-made.is (λ q. annotates (new q) c.label-mark.result c.annotate.ensures)))

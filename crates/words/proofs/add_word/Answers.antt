@@ -2,25 +2,25 @@
 use Rattle.words.proofs.Chain.{new, kept, after, refused, appends}
 use Rattle.words.proofs.add_word.Goals as goal
 
-pub append-made-requires : goal.append-made-requires
-append-made-requires c = tt
-
-pub returns-in_default : goal.returns-in_default
-returns-in_default c = λ d e i j. refused c.in_default.is
-
-pub leaf-made-requires : goal.leaf-made-requires
-leaf-made-requires c = tt
-
-pub returns-in_default-made : goal.returns-in_default-made
-returns-in_default-made c = λ d e i j. refused c.in_default-made.is
-
 pub append-requires : goal.append-requires
 append-requires c = tt
+
+pub returns-in_err-c : goal.returns-in_err-c
+returns-in_err-c c = λ d e i j. refused c.in_err-c.was
+
+pub leaf-requires : goal.leaf-requires
+leaf-requires c = tt
+
+pub returns-in_err-c-2 : goal.returns-in_err-c-2
+returns-in_err-c-2 c = λ d e i j. refused c.in_err-c-2.was
+
+pub append-requires-2 : goal.append-requires-2
+append-requires-2 c = tt
 
 pub returns : goal.returns
 returns c =
     λ d e i j.
     after
-    (appends i j c.append-made.ensures)
-    c.in-Node.is
-    (λ b. after c.leaf-made.ensures c.in-Node-made.is (λ w. appends (kept w (new b)) (new w) c.append.ensures))
+    (appends i j c.append.ensures)
+    c.in_ok-c.was
+    (λ b. after c.leaf.ensures c.in_ok-c-2.was (λ w. appends (kept w (new b)) (new w) c.append-2.ensures))

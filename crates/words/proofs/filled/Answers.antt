@@ -32,11 +32,11 @@ overflow_add-end c =
     let room : length (take (length s - L.at) (drop L.at s)) ≡ length s - L.at = length-take-le (length s - L.at) (drop L.at s) (simp length-drop (omega arith)) in
     omega (arith, c.together-size.ensures.2)
 
-pub add_word-made-requires : goal.add_word-made-requires
-add_word-made-requires c = tt
+pub add_word-requires : goal.add_word-requires
+add_word-requires c = tt
 
-pub returns-in_default : goal.returns-in_default
-returns-in_default c = λ i. refused c.in_default.is
+pub returns-in_err-next : goal.returns-in_err-next
+returns-in_err-next c = λ i. refused c.in_err-next.was
 
 pub skip-at-requires-in-loop-at : goal.skip-at-requires-in-loop-at
 skip-at-requires-in-loop-at c = tt
@@ -53,7 +53,7 @@ loop-at-preserved c =
     let size = c.together-size.result in
     let is : size ≡ together most (drop L.at s) = c.together-size.ensures.0 ∙ ap (together most) (rest-is s L.at) in
     let some : 0 < size = c.together-size.ensures.1 in
-    (search rules, search rules, fill-next L.invariant.2 size c.skip-at-in-loop-at.result (omega arith) is some c.skip-at-in-loop-at.ensures c.add_word-made.ensures c.in-Node.is)
+    (search rules, search rules, fill-next L.invariant.2 size c.skip-at-in-loop-at.result (omega arith) is some c.skip-at-in-loop-at.ensures c.add_word.ensures c.in_ok-next.was)
 
 pub returns : goal.returns
 returns c = λ i. fill_end c.loop-at.invariant.2 (omega arith) i.none i.softline

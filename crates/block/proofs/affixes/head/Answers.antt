@@ -2,28 +2,28 @@
 use Rattle.block.proofs.Groups.{head_stop₁, head_asks₂, head_stop₂, head_last}
 use Rattle.block.proofs.affixes.head.Goals as goal
 
-pub list-first-requires : goal.list-first-requires
-list-first-requires c =
+pub list-requires : goal.list-requires
+list-requires c =
     (c.requires.0, c.requires.1.none, c.requires.2)
 
-pub returns-in_default : goal.returns-in_default
-returns-in_default c =
+pub returns-in_err-c : goal.returns-in_err-c
+returns-in_err-c c =
     let args = c.args in
-    head_stop₁ c.requires.0 c.requires.1 args.before.now c.requires.2 c.list-first.ensures c.in_default.is
+    head_stop₁ c.requires.0 c.requires.1 args.before.now c.requires.2 c.list.ensures c.in_err-c.was
 
-pub guarded-second-requires : goal.guarded-second-requires
-guarded-second-requires c =
+pub guarded-requires : goal.guarded-requires
+guarded-requires c =
     let args = c.args in
-    head_asks₂ c.requires.0 c.requires.1 args.before.now c.requires.2 c.list-first.ensures c.in-Node.is
+    head_asks₂ c.requires.0 c.requires.1 args.before.now c.requires.2 c.list.ensures c.in_ok-c.was
 
-pub returns-in_default-second : goal.returns-in_default-second
-returns-in_default-second c =
+pub returns-in_err-c-2 : goal.returns-in_err-c-2
+returns-in_err-c-2 c =
     let args = c.args in
-    head_stop₂ c.requires.0 c.requires.1 args.before.now c.requires.2 c.list-first.ensures c.in-Node.is
-    c.guarded-second.ensures c.in_default-second.is
+    head_stop₂ c.requires.0 c.requires.1 args.before.now c.requires.2 c.list.ensures c.in_ok-c.was
+    c.guarded.ensures c.in_err-c-2.was
 
 pub returns : goal.returns
 returns c =
     let args = c.args in
-    head_last c.requires.0 c.requires.1 args.before.now c.requires.2 c.list-first.ensures c.in-Node.is
-    c.guarded-second.ensures c.in-Node-second.is c.group.ensures
+    head_last c.requires.0 c.requires.1 args.before.now c.requires.2 c.list.ensures c.in_ok-c.was
+    c.guarded.ensures c.in_ok-c-2.was c.group.ensures

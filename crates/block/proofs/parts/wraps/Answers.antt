@@ -24,21 +24,21 @@ pub bounds-nests-i : goal.bounds-nests-i
 bounds-nests-i c =
     omega (arith, c.loop-i-test.true, c.loop-i.invariant.inside, c.requires.4)
 
-pub wrap-made-requires : goal.wrap-made-requires
-wrap-made-requires c =
+pub wrap-requires : goal.wrap-requires
+wrap-requires c =
     let args = c.args in
     wrap_asks c.requires.0 c.requires.1 args.n c.requires.2 args.prefixes.now args.nests.now c.requires.3 c.requires.4
     c.loop-i-test.true c.loop-i.invariant
 
 pub shape_of-table-in_default : goal.shape_of-table-in_default
 shape_of-table-in_default c =
-    c.wrap-made.auto.table ∙ same-words c.loop-i.invariant.place.stands
+    c.wrap.auto.table ∙ same-words c.loop-i.invariant.place.stands
 
-pub returns-in_default : goal.returns-in_default
-returns-in_default c =
+pub returns-in_err-next : goal.returns-in_err-next
+returns-in_err-next c =
     let args = c.args in
     wrap-stop c.requires.0 c.requires.1 args.n c.requires.2 args.prefixes.now args.nests.now c.requires.3 c.requires.4
-    c.loop-i-test.true c.loop-i.invariant c.wrap-made.ensures c.in_default.is
+    c.loop-i-test.true c.loop-i.invariant c.wrap.ensures c.in_err-next.was
 
 pub loop-i-smaller : goal.loop-i-smaller
 loop-i-smaller c =
@@ -48,7 +48,7 @@ pub loop-i-preserved : goal.loop-i-preserved
 loop-i-preserved c =
     let args = c.args in
     wrap-next c.requires.0 c.requires.1 args.n c.requires.2 args.prefixes.now args.nests.now c.requires.3 c.requires.4
-    c.loop-i-test.true c.loop-i.invariant c.wrap-made.ensures c.in-Node.is
+    c.loop-i-test.true c.loop-i.invariant c.wrap.ensures c.in_ok-next.was
 
 pub shape_of-table : goal.shape_of-table
 shape_of-table c = same-words c.loop-i.invariant.place.stands

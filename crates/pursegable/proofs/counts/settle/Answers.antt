@@ -1,7 +1,7 @@
 -- `settle` meets its contract: a node's counts go into the caller's words, a refusal leaves them.
 -- Assumes nothing.
 use mathlib.Core.Path.{sym, ap, ◌∙◌}
-use Rattle.build.specs.declared.Made.{Made}
+use Rattle.build.specs.Outcome.{Made}
 use Rattle.pursegable.specs.Building.{answer_of, counts_after}
 use Rattle.pursegable.proofs.Making.{counts-set}
 use Rattle.pursegable.proofs.counts.settle.Goals as goal

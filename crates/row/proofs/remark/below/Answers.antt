@@ -3,11 +3,11 @@ use Rattle.words.proofs.Chain.{new, kept, after, refused, joins}
 use Rattle.row.specs.Remark.{below_doc}
 use Rattle.row.proofs.remark.below.Goals as goal
 
-pub lower-made-requires : goal.lower-made-requires
-lower-made-requires c = tt
+pub lower-requires : goal.lower-requires
+lower-requires c = tt
 
-pub returns-in_default : goal.returns-in_default
-returns-in_default c = λ d s i. refused c.in_default.is
+pub returns-in_err-c : goal.returns-in_err-c
+returns-in_err-c c = λ d s i. refused c.in_err-c.was
 
 pub concat-requires : goal.concat-requires
 concat-requires c = tt
@@ -15,4 +15,4 @@ concat-requires c = tt
 pub returns : goal.returns
 unfolding below_doc
 returns c =
-    λ d s i. after (c.lower-made.ensures s) c.in-Node.is (λ b. joins (kept b i) (new b) (kept b s.hardline) c.concat.ensures)
+    λ d s i. after (c.lower.ensures s) c.in_ok-c.was (λ b. joins (kept b i) (new b) (kept b s.hardline) c.concat.ensures)

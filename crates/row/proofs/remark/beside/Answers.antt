@@ -11,11 +11,11 @@ use Rattle.row.proofs.remark.beside.Goals as goal
 pub front-requires : goal.front-requires
 front-requires c = tt
 
-pub leaf-made-requires : goal.leaf-made-requires
-leaf-made-requires c = tt
+pub leaf-requires : goal.leaf-requires
+leaf-requires c = tt
 
-pub returns-in_default : goal.returns-in_default
-returns-in_default c = λ d s i. refused c.in_default.is
+pub returns-in_err-c : goal.returns-in_err-c
+returns-in_err-c c = λ d s i. refused c.in_err-c.was
 
 pub concat-requires : goal.concat-requires
 concat-requires c = tt
@@ -26,4 +26,4 @@ returns c =
     λ d s i.
     let says = c.args.says.now in
     let is = c.front.ensures ∙ written_at 256 2 says _ c.put-n.result (omega arith) (place-adds c.put-n.ensures) ∙ remark-fits says c.requires in
-    after (gives refl (ap leaf_doc is) c.leaf-made.ensures) c.in-Node.is (λ b. joins (kept b i) (new b) (kept b s.hardline) c.concat.ensures)
+    after (gives refl (ap leaf_doc is) c.leaf.ensures) c.in_ok-c.was (λ b. joins (kept b i) (new b) (kept b s.hardline) c.concat.ensures)

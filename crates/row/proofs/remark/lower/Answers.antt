@@ -3,17 +3,17 @@ use Rattle.words.proofs.Chain.{new, kept, after, refused, nests, appends}
 use Rattle.row.specs.Remark.{lower_doc}
 use Rattle.row.proofs.remark.lower.Goals as goal
 
-pub filled-made-requires : goal.filled-made-requires
-filled-made-requires c = tt
+pub filled-requires : goal.filled-requires
+filled-requires c = tt
 
-pub returns-in_default : goal.returns-in_default
-returns-in_default c = λ s. refused c.in_default.is
+pub returns-in_err-c : goal.returns-in_err-c
+returns-in_err-c c = λ s. refused c.in_err-c.was
 
-pub append-made-requires : goal.append-made-requires
-append-made-requires c = tt
+pub append-requires : goal.append-requires
+append-requires c = tt
 
-pub returns-in_default-made : goal.returns-in_default-made
-returns-in_default-made c = λ s. refused c.in_default-made.is
+pub returns-in_err-c-2 : goal.returns-in_err-c-2
+returns-in_err-c-2 c = λ s. refused c.in_err-c-2.was
 
 pub nest-requires : goal.nest-requires
 nest-requires c = tt
@@ -23,6 +23,6 @@ unfolding lower_doc
 returns c =
     λ s.
     after
-    (c.filled-made.ensures s)
-    c.in-Node.is
-    (λ b. after (appends (kept b s.hardline) (new b) c.append-made.ensures) c.in-Node-made.is (λ q. nests (new q) 4 0 c.nest.ensures))
+    (c.filled.ensures s)
+    c.in_ok-c.was
+    (λ b. after (appends (kept b s.hardline) (new b) c.append.ensures) c.in_ok-c-2.was (λ q. nests (new q) 4 0 c.nest.ensures))

@@ -2,14 +2,14 @@
 use Rattle.words.proofs.Chain.{new, kept, shares-kept, after, refused, unites}
 use Rattle.row.proofs.remark.remarked.Goals as goal
 
-pub returns-in_default : goal.returns-in_default
-returns-in_default c = λ d s i. refused c.in_default.is
+pub returns-in_err-c : goal.returns-in_err-c
+returns-in_err-c c = λ d s i. refused c.in_err-c.was
 
-pub below-made-requires : goal.below-made-requires
-below-made-requires c = tt
+pub below-requires : goal.below-requires
+below-requires c = tt
 
-pub returns-in_default-made : goal.returns-in_default-made
-returns-in_default-made c = λ d s i. refused c.in_default-made.is
+pub returns-in_err-c-2 : goal.returns-in_err-c-2
+returns-in_err-c-2 c = λ d s i. refused c.in_err-c-2.was
 
 pub union-requires : goal.union-requires
 union-requires c = tt
@@ -18,6 +18,6 @@ pub returns : goal.returns
 returns c =
     λ d s i.
     after
-    (c.beside-made.ensures d s i)
-    c.in-Node.is
-    (λ b. after (c.below-made.ensures d (shares-kept b s) (kept b i)) c.in-Node-made.is (λ q. unites (kept q (new b)) (new q) c.union.ensures))
+    (c.beside.ensures d s i)
+    c.in_ok-c.was
+    (λ b. after (c.below.ensures d (shares-kept b s) (kept b i)) c.in_ok-c-2.was (λ q. unites (kept q (new b)) (new q) c.union.ensures))
