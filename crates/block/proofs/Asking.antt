@@ -18,8 +18,7 @@ use Rattle.build.specs.declared.Why.{Why}
 use Rattle.build.specs.declared.Why.TheVariants.{Sizes, Operand, Amount, Text, Bytes, Nodes}
 use Rattle.build.specs.Outcome.{Made}
 use Rattle.std.specs.Prelude.{Ok, Err}
-use Rattle.build.specs.declared.Asked.{Asked}
-use Rattle.build.specs.declared.Asked.TheVariants.{Granted, Denied}
+use Rattle.build.specs.Outcome.{Asked}
 use Rattle.build.specs.Draft.{Draft, Built, counted, older}
 use Rattle.build.specs.Outcome.{past, fits, asked, outcome, made}
 use Rattle.build.specs.Constructors.{has, has_all, nest_right}
@@ -34,12 +33,12 @@ use Rattle.block.proofs.Chain.{no_room, ran-older}
 use Rattle.block.proofs.Starts.{layouts-adds, layouts_three}
 
 -- denied with fewer nodes: denied with more
-denied-on : (q : Bool) (w why : Why) (x y : Asked) → (x ≡ Denied why → y ≡ Denied why) → pick q (Denied w) x ≡ Denied why → pick q (Denied w) y ≡ Denied why
+denied-on : (q : Bool) (w why : Why) (x y : Asked) → (x ≡ Err why → y ≡ Err why) → pick q (Err w) x ≡ Err why → pick q (Err w) y ≡ Err why
 denied-on true w why x y f e = e
 denied-on false w why x y f e = f e
 
 asked-more : (c : Counts) (words bytes : ℕ) (present amount text : Bool) (n m used : ℕ) (why : Why) → c.nodes ≤ n → n ≤ m
-    → asked c words bytes present amount text n used ≡ Denied why → asked c words bytes present amount text m used ≡ Denied why
+    → asked c words bytes present amount text n used ≡ Err why → asked c words bytes present amount text m used ≡ Err why
 unfolding asked
 asked-more c words bytes present amount text n m used why a b e =
     denied-on (past c words bytes) Sizes why _ _
@@ -49,8 +48,8 @@ asked-more c words bytes present amount text n m used why a b e =
     (denied-on (not (fits c.bytes used 65536 bytes)) Bytes why _ _ (last (fits c.nodes n 1024 (words / 4)) (fits c.nodes m 1024 (words / 4)) refl refl)))))
     e
   where
-    last : (p q : Bool) → fits c.nodes n 1024 (words / 4) ≡ p → fits c.nodes m 1024 (words / 4) ≡ q → pick (not p) (Denied Nodes) Granted ≡ Denied why
-        → pick (not q) (Denied Nodes) Granted ≡ Denied why
+    last : (p q : Bool) → fits c.nodes n 1024 (words / 4) ≡ p → fits c.nodes m 1024 (words / 4) ≡ q → pick (not p) (Err Nodes) (Ok tt) ≡ Err why
+        → pick (not q) (Err Nodes) (Ok tt) ≡ Err why
     last true q h k x = let z : ◌≡◌ {A = ℕ} 0 1 = cc in absurd (omega arith)
     last false true h k x = absurd (true≢false (sym k ∙ no_room c.nodes n m (words / 4) a b h))
     last false false h k x = x
@@ -99,16 +98,16 @@ module _ (c : Counts) (table text : List ℕ) (b : Block) (ps ss : List ℕ) (qs
           (rw (ne_eqb (suc (length xs)) 0 (λ z. omega arith)) three, adds.quiet)
 
   -- an operand that is no present node is refused whatever is asked for
-  no_operand : (n m u v : ℕ) {why : Why} → present ≡ false → asked c (length table) (length text) present right true n u ≡ Denied why
-      → asked c (length table) (length text) present right true m v ≡ Denied why
+  no_operand : (n m u v : ℕ) {why : Why} → present ≡ false → asked c (length table) (length text) present right true n u ≡ Err why
+      → asked c (length table) (length text) present right true m v ≡ Err why
   unfolding asked
   no_operand n m u v q d = rw q (rw q at d)
 
-  pub within-refused : (why : Why) → few-asked ≡ Denied why → outcome (Err why) table text ≡ made c table text present right true f
+  pub within-refused : (why : Why) → few-asked ≡ Err why → outcome (Err why) table text ≡ made c table text present right true f
   within-refused why d = made_denied c table text present right true f _ _ why refl refl (by present refl)
     where
       by : (q : Bool) → present ≡ q
-          → asked c (length table) (length text) present right true (f (counted c table text)).draft.counts.nodes (f (counted c table text)).draft.counts.bytes ≡ Denied why
+          → asked c (length table) (length text) present right true (f (counted c table text)).draft.counts.nodes (f (counted c table text)).draft.counts.bytes ≡ Err why
       by true q =
           let n = enough q in
           rw n.1
@@ -116,14 +115,14 @@ module _ (c : Counts) (table text : List ℕ) (b : Block) (ps ss : List ℕ) (qs
           (rw (add-zero c.bytes) at d))
       by false q = no_operand _ _ _ _ q d
 
-  module _ (granted : few-asked ≡ Granted) where
+  module _ (granted : few-asked ≡ (Ok tt)) where
     facts : Passed c (length table) (length text) present right true (c.nodes + least (length ps)) (c.bytes + 0)
     facts = passed c (length table) (length text) present right true (c.nodes + least (length ps)) (c.bytes + 0) granted
 
     ready : Ready c table text
     ready = record { nodes = facts.counted-nodes; bytes = facts.counted-bytes }
 
-    pub within-body : length ps ≡ 0 → outcome (Ok (c , b.body)) table text ≡ made c table text present right true f
+    pub within-body : length ps ≡ 0 → outcome (Ok (c, b.body)) table text ≡ made c table text present right true f
     unfolding counted
     within-body z =
         let n : c.nodes + least (length ps) ≡ c.nodes = rw z (omega arith) in

@@ -108,7 +108,7 @@ module _ {c : Counts} {table text : List ℕ} (r : Ready c table text) where
         short = λ e. ap (λ (x : Outcome). x.made) (o ∙ sym (made-short c table text present amount f r.nodes r.bytes p q quiet e));
       }
 
-  pub ran-older : (n : NodeNo) → Ran c table text (older (counted c table text) n.0) (Ok (c , n)) table
+  pub ran-older : (n : NodeNo) → Ran c table text (older (counted c table text) n.0) (Ok (c, n)) table
   unfolding counted
   ran-older n =
       record {
@@ -169,7 +169,7 @@ module _ {c : Counts} {table text : List ℕ} where
         went-added (start c table text r.nodes r.bytes) b d.grown room (ran.whole e)
 
     -- a node says that there was room
-    pub had-room : {c₁ : Counts} {n₁ : NodeNo} → m ≡ Ok (c₁ , n₁) → fit ≡ true
+    pub had-room : {c₁ : Counts} {n₁ : NodeNo} → m ≡ Ok (c₁, n₁) → fit ≡ true
     had-room {c₁} {n₁} e = by fit refl
       where
         by : (q : Bool) → fit ≡ q → fit ≡ true
@@ -177,7 +177,7 @@ module _ {c : Counts} {table text : List ℕ} where
         by false q = let s = ran.short q in let z : ◌≡◌ {A = ℕ} 0 1 = cc in absurd (omega arith)
 
     -- its answer taken apart
-    pub at : {c₁ : Counts} {n₁ : NodeNo} → m ≡ Ok (c₁ , n₁) → At c table text b.draft c₁ table₁ × (n₁.0 ≡ b.node)
+    pub at : {c₁ : Counts} {n₁ : NodeNo} → m ≡ Ok (c₁, n₁) → At c table text b.draft c₁ table₁ × (n₁.0 ≡ b.node)
     at e =
         let t = taken (gone (had-room e)) e in
         (record { stands = t.0; grown = d.grown; quiet = quietly; room = fits_of _ _ _ _ grows (had-room e) }, t.1)
@@ -205,7 +205,7 @@ pub record Reached (c : Counts) (table text : List ℕ) (b : Built) : Type 0 whe
   pub is : node.0 ≡ b.node
 
 abbrev pub reached : {c : Counts} {table text : List ℕ} {b : Built} {m : Made} {table₁ : List ℕ} → Ready c table text → Adds (counted c table text) b
-    → Ran c table text b m table₁ → {c₁ : Counts} {n₁ : NodeNo} → m ≡ Ok (c₁ , n₁) → Reached c table text b
+    → Ran c table text b m table₁ → {c₁ : Counts} {n₁ : NodeNo} → m ≡ Ok (c₁, n₁) → Reached c table text b
 reached {table₁ = table₁} r d ran {c₁} {n₁} e = let t = at r d ran e in record { counts = c₁; node = n₁; left = table₁; place = t.0; is = t.1 }
 
 -- ---- a constructor as the next part
@@ -267,14 +267,14 @@ module _ {c : Counts} {table text : List ℕ} (r : Ready c table text) {b₁ : B
     pub first_stops : {why : Why} → m₁ ≡ Err why → Ran c table text both m₁ table₁
     first_stops e = stop r d₁ ran₁ e (adds_then d₂ d₃)
 
-    module _ {c₁ : Counts} {n₁ : NodeNo} (e₁ : m₁ ≡ Ok (c₁ , n₁)) {m₂ : Made} {table₂ : List ℕ} (ran₂ : Ran c₁ table₁ text (f₂ (counted c₁ table₁ text)) m₂ table₂) where
+    module _ {c₁ : Counts} {n₁ : NodeNo} (e₁ : m₁ ≡ Ok (c₁, n₁)) {m₂ : Made} {table₂ : List ℕ} (ran₂ : Ran c₁ table₁ text (f₂ (counted c₁ table₁ text)) m₂ table₂) where
       so_far : Ran c table text b₂ m₂ table₂
       so_far = go (at r d₁ ran₁ e₁).0 f₂ d₂ ran₂
 
       pub second_stops : {why : Why} → m₂ ≡ Err why → Ran c table text both m₂ table₂
       second_stops e = stop r (adds_then d₁ d₂) so_far e d₃
 
-      pub group_last : {c₂ : Counts} {n₂ : NodeNo} → m₂ ≡ Ok (c₂ , n₂) → {m₃ : Made} {table₃ : List ℕ} → outcome m₃ table₃ text ≡ group_made c₂ table₂ text n₂.0
+      pub group_last : {c₂ : Counts} {n₂ : NodeNo} → m₂ ≡ Ok (c₂, n₂) → {m₃ : Made} {table₃ : List ℕ} → outcome m₃ table₃ text ≡ group_made c₂ table₂ text n₂.0
           → Ran c table text both m₃ table₃
       group_last e o =
           let t = at r (adds_then d₁ d₂) so_far e in

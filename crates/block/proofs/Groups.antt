@@ -51,7 +51,7 @@ module _ {c : Counts} {table text : List ℕ} (r : Ready c table text) {sh : Sha
     unfolding head
     head_stop₁ e = first_stops r joined-adds guard guard-adds ran₁ e
 
-    module _ {c₁ : Counts} {n₁ : NodeNo} (e₁ : m₁ ≡ Ok (c₁ , n₁)) where
+    module _ {c₁ : Counts} {n₁ : NodeNo} (e₁ : m₁ ≡ Ok (c₁, n₁)) where
       after_list : At c table text joined.draft c₁ table₁ × (n₁.0 ≡ joined.node)
       after_list = at r joined-adds ran₁ e₁
 
@@ -67,7 +67,7 @@ module _ {c : Counts} {table text : List ℕ} (r : Ready c table text) {sh : Sha
         unfolding head
         head_stop₂ e = second_stops r joined-adds guard guard-adds ran₁ e₁ guard_ran e
 
-        pub head_last : {c₂ : Counts} {n₂ : NodeNo} → m₂ ≡ Ok (c₂ , n₂)
+        pub head_last : {c₂ : Counts} {n₂ : NodeNo} → m₂ ≡ Ok (c₂, n₂)
             → {m₃ : Made} {table₃ : List ℕ} → outcome m₃ table₃ text ≡ group_made c₂ table₂ text n₂.0 → Ran c table text (head (counted c table text) sh before) m₃ table₃
         unfolding head
         head_last e₂ o = group_last r joined-adds guard guard-adds ran₁ e₁ guard_ran e₂ o
@@ -96,7 +96,7 @@ module _ {c : Counts} {table text : List ℕ} (r : Ready c table text) {sh : Sha
     unfolding tail
     tail_stop₁ e = first_stops r suffixes-adds join join-adds ran₁ e
 
-    module _ {c₁ : Counts} {n₁ : NodeNo} (e₁ : m₁ ≡ Ok (c₁ , n₁)) {m₂ : Made} {table₂ : List ℕ}
+    module _ {c₁ : Counts} {n₁ : NodeNo} (e₁ : m₁ ≡ Ok (c₁, n₁)) {m₂ : Made} {table₂ : List ℕ}
         (o₂ : outcome m₂ table₂ text ≡ append_made c₁ table₁ text n n₁.0) where
       join_ran : Ran c₁ table₁ text (join (counted c₁ table₁ text)) m₂ table₂
       join_ran =
@@ -107,7 +107,7 @@ module _ {c : Counts} {table text : List ℕ} (r : Ready c table text) {sh : Sha
       unfolding tail
       tail_stop₂ e = second_stops r suffixes-adds join join-adds ran₁ e₁ join_ran e
 
-      pub tail_last : {c₂ : Counts} {n₂ : NodeNo} → m₂ ≡ Ok (c₂ , n₂)
+      pub tail_last : {c₂ : Counts} {n₂ : NodeNo} → m₂ ≡ Ok (c₂, n₂)
           → {m₃ : Made} {table₃ : List ℕ} → outcome m₃ table₃ text ≡ group_made c₂ table₂ text n₂.0 → Ran c table text (tail (counted c table text) sh n before) m₃ table₃
       unfolding tail
       tail_last e₂ o = group_last r suffixes-adds join join-adds ran₁ e₁ join_ran e₂ o
@@ -136,7 +136,7 @@ module _ {c : Counts} {table text : List ℕ} (r : Ready c table text) {b : Bloc
     unfolding wrap
     wrap_stop₁ e = first_stops r prefixed-adds nest_it nest_it-adds prefixed_ran e
 
-    module _ {c₁ : Counts} {n₁ : NodeNo} (e₁ : m₁ ≡ Ok (c₁ , n₁)) where
+    module _ {c₁ : Counts} {n₁ : NodeNo} (e₁ : m₁ ≡ Ok (c₁, n₁)) where
       after-join : At c table text prefixed.draft c₁ table₁ × (n₁.0 ≡ prefixed.node)
       after-join = at r prefixed-adds prefixed_ran e₁
 
@@ -151,7 +151,7 @@ module _ {c : Counts} {table text : List ℕ} (r : Ready c table text) {b : Bloc
         unfolding wrap
         wrap_stop₂ e = second_stops r prefixed-adds nest_it nest_it-adds prefixed_ran e₁ nest_it_ran e
 
-        pub wrap_last : {c₂ : Counts} {n₂ : NodeNo} → m₂ ≡ Ok (c₂ , n₂)
+        pub wrap_last : {c₂ : Counts} {n₂ : NodeNo} → m₂ ≡ Ok (c₂, n₂)
             → {m₃ : Made} {table₃ : List ℕ} → outcome m₃ table₃ text ≡ group_made c₂ table₂ text n₂.0 → Ran c table text (wrap (counted c table text) b n prefix flag) m₃ table₃
         unfolding wrap
         wrap_last e₂ o = group_last r prefixed-adds nest_it nest_it-adds prefixed_ran e₁ nest_it_ran e₂ o

@@ -36,12 +36,12 @@ use Rattle.block.proofs.Steps.{bodied_later}
 
 -- a run that has come to its end
 pub ran_at : {c : Counts} {table text : List ℕ} (b : Built) {c₁ : Counts} {n₁ : NodeNo} {table₁ : List ℕ} → At c table text b.draft c₁ table₁ → n₁.0 ≡ b.node
-    → Ran c table text b (Ok (c₁ , n₁)) table₁
+    → Ran c table text b (Ok (c₁, n₁)) table₁
 ran_at b {c₁} {n₁} a e =
     let s = a.stands in
     record {
       whole =
-          λ q. done {b = b} (record { answer = λ i. Ok ((s.counts i) , (record { 0 = e i })); stands = record { counts = refl; words = s.words; bytes = s.bytes; whole = s.whole; nodes-inside = s.nodes-inside; bytes_inside = s.bytes_inside } });
+          λ q. done {b = b} (record { answer = λ i. Ok ((s.counts i), (record { 0 = e i })); stands = record { counts = refl; words = s.words; bytes = s.bytes; whole = s.whole; nodes-inside = s.nodes-inside; bytes_inside = s.bytes_inside } });
       short = λ q. absurd (true≢false (sym (of-fits a.room) ∙ q));
     }
 
@@ -135,13 +135,13 @@ module _ {c : Counts} {table text : List ℕ} (r : Ready c table text) {b : Bloc
       pub wrap-stop : {why : Why} → m₂ ≡ Err why → Ran c table text (wraps s₀ b n.0 ps qs) m₂ table₂
       wrap-stop x = stop r (far-adds j) one_more x (wraps-rest s₀ b n.0 ps qs j e (start-node r h) below)
 
-      pub wrap-next : {c₂ : Counts} {n₂ : NodeNo} → m₂ ≡ Ok (c₂ , n₂) → Here (i - 1) c₂ n₂ table₂
+      pub wrap-next : {c₂ : Counts} {n₂ : NodeNo} → m₂ ≡ Ok (c₂, n₂) → Here (i - 1) c₂ n₂ table₂
       wrap-next x =
           let inside = one_less in
           let t = at r (far-adds j) one_more x in
           record { inside = omega arith; place = t.0; node = t.1 }
 
-  pub wrap-end : {i : ℕ} → i ≤ 0 → {c₁ : Counts} {n₁ : NodeNo} {table₁ : List ℕ} → Here i c₁ n₁ table₁ → Ran c table text (wraps s₀ b n.0 ps qs) (Ok (c₁ , n₁)) table₁
+  pub wrap-end : {i : ℕ} → i ≤ 0 → {c₁ : Counts} {n₁ : NodeNo} {table₁ : List ℕ} → Here i c₁ n₁ table₁ → Ran c table text (wraps s₀ b n.0 ps qs) (Ok (c₁, n₁)) table₁
   wrap-end {i} h {c₁} {n₁} {table₁} here =
       let none : i ≡ 0 = omega arith in
       let last = subst (λ (x : ℕ). Here x c₁ n₁ table₁) none here in
@@ -239,7 +239,7 @@ module _ {c : Counts} {table text : List ℕ} (r : Ready c table text) {b : Bloc
       pub left_stop₁ : {why : Why} → m₂ ≡ Err why → Ran c table text whole m₂ table₂
       left_stop₁ x = stop r (at-adds left.place other-adds) ran-other x (adds_then joined-adds rest-adds)
 
-      module _ {c₂ : Counts} {n₂ : NodeNo} (e₂ : m₂ ≡ Ok (c₂ , n₂)) {m₃ : Made} {table₃ : List ℕ}
+      module _ {c₂ : Counts} {n₂ : NodeNo} (e₂ : m₂ ≡ Ok (c₂, n₂)) {m₃ : Made} {table₃ : List ℕ}
           (o : outcome m₃ table₃ text ≡ union_made c₂ table₂ text n₁.0 n₂.0) where
         ran-joined : Ran c table text joined m₃ table₃
         ran-joined =
@@ -253,7 +253,7 @@ module _ {c : Counts} {table text : List ℕ} (r : Ready c table text) {b : Bloc
         pub left_stop₂ : {why : Why} → m₃ ≡ Err why → Ran c table text whole m₃ table₃
         left_stop₂ x = stop r all-adds ran-joined x rest-adds
 
-        pub left-next : {c₃ : Counts} {n₃ : NodeNo} → m₃ ≡ Ok (c₃ , n₃) → Still (split - 1) c₃ n₃ table₃
+        pub left-next : {c₃ : Counts} {n₃ : NodeNo} → m₃ ≡ Ok (c₃, n₃) → Still (split - 1) c₃ n₃ table₃
         left-next {c₃} {n₃} x =
             let inside = still.inside in
             let t = at r all-adds ran-joined x in
@@ -265,7 +265,7 @@ module _ {c : Counts} {table text : List ℕ} (r : Ready c table text) {b : Bloc
               ends = ap₂ (λ (s : Draft) (x : ℕ). unions s b sh ps ss qs x less) is t.1 ∙ rest-is;
             }
 
-  pub left_end : {split : ℕ} → split ≤ 0 → {c₁ : Counts} {n₁ : NodeNo} {table₁ : List ℕ} → Still split c₁ n₁ table₁ → Ran c table text whole (Ok (c₁ , n₁)) table₁
+  pub left_end : {split : ℕ} → split ≤ 0 → {c₁ : Counts} {n₁ : NodeNo} {table₁ : List ℕ} → Still split c₁ n₁ table₁ → Ran c table text whole (Ok (c₁, n₁)) table₁
   unfolding unions
   left_end {split} h {c₁} {n₁} {table₁} still =
       let none : split ≡ 0 = omega arith in

@@ -120,7 +120,7 @@ module _ {c : Counts} {table text : List ℕ} (r : Ready c table text) {b : Bloc
         λ l. let g : c.nodes ≤ W = let h = three in omega arith in of-fits (record { grows = g; limited = λ y. l; inside = λ y. rw own-length (omega arith) }) in
         rw (ran.short none) (refused (none_lent (fits c.nodes W 1024 (length table / 4)) refl (λ l m. true≢false (sym (small l) ∙ none))))
 
-    module _ {d : Counts} {n : NodeNo} (x : m ≡ Ok (d , n)) where
+    module _ {d : Counts} {n : NodeNo} (x : m ≡ Ok (d, n)) where
       t : At c own text whole.draft d own₁ × (n.0 ≡ whole.node)
       t = at own_ready own-adds ran x
 
@@ -142,7 +142,7 @@ module _ {c : Counts} {table text : List ℕ} (r : Ready c table text) {b : Bloc
           (omega arith, omega arith, omega arith)
 
       pub placed_last : d.nodes ≤ length table / 4 → {table' : List ℕ}
-          → table' ≡ put table (c.nodes * 4) (take (d.nodes * 4 - c.nodes * 4) (drop (c.nodes * 4) own₁)) → Goal (Ok (d , n)) table'
+          → table' ≡ put table (c.nodes * 4) (take (d.nodes * 4 - c.nodes * 4) (drop (c.nodes * 4) own₁)) → Goal (Ok (d, n)) table'
       unfolding added counted
       placed_last h e =
           let is = is_whole in
@@ -154,5 +154,5 @@ module _ {c : Counts} {table text : List ℕ} (r : Ready c table text) {b : Bloc
           over_copied table own adds.grown.words whole.draft.table (c.nodes * 4) (d.nodes * 4 - c.nodes * 4) adds.grown.table used-inside size in
           let laid = e ∙ ap (λ (l : List ℕ). put table (c.nodes * 4) (take (d.nodes * 4 - c.nodes * 4) (drop (c.nodes * 4) l))) t.0.stands.words ∙ words in
           let kept = t.0.stands.bytes in
-          (λ i. outcome (Ok ((t.0.stands.counts i) , (record { 0 = t.1 i }))) (laid i) (kept i))
+          (λ i. outcome (Ok ((t.0.stands.counts i), (record { 0 = t.1 i }))) (laid i) (kept i))
           ∙ sym (made-whole c table text true true (λ s. layouts s b ps ss qs others) r.nodes r.bytes refl refl quiet (of-fits room))

@@ -120,7 +120,7 @@ module _ {c : Counts} {table text : List ℕ} (r : Ready c table text) {b : Bloc
     pub split_stop₁ : {why : Why} → m ≡ Err why → Ran c table text whole m table'
     split_stop₁ x = stop r d₁ ran x (adds_then d₂ (adds_then d₃ (adds_then d₄ d₅)))
 
-    abbrev pub split-front : {c' : Counts} {n : NodeNo} → m ≡ Ok (c' , n) → AtFront
+    abbrev pub split-front : {c' : Counts} {n : NodeNo} → m ≡ Ok (c', n) → AtFront
     split-front x = reached r d₁ ran x
 
   -- ---- Core
@@ -142,7 +142,7 @@ module _ {c : Counts} {table text : List ℕ} (r : Ready c table text) {b : Bloc
       pub split_stop₂ : {why : Why} → m ≡ Err why → Ran c table text whole m table'
       split_stop₂ x = stop r to_middle ran_middle x (adds_then d₃ (adds_then d₄ d₅))
 
-      abbrev pub split_middle : {c' : Counts} {n : NodeNo} → m ≡ Ok (c' , n) → AtMiddle
+      abbrev pub split_middle : {c' : Counts} {n : NodeNo} → m ≡ Ok (c', n) → AtMiddle
       split_middle x = reached r to_middle ran_middle x
 
   -- ---- the wraps
@@ -167,7 +167,7 @@ module _ {c : Counts} {table text : List ℕ} (r : Ready c table text) {b : Bloc
       pub split_stop₃ : {why : Why} → m ≡ Err why → Ran c table text whole m table'
       split_stop₃ x = stop r to-wrapped ran-wrapped x (adds_then d₄ d₅)
 
-      abbrev pub split-wrapped : {c' : Counts} {n : NodeNo} → m ≡ Ok (c' , n) → AtWrapped
+      abbrev pub split-wrapped : {c' : Counts} {n : NodeNo} → m ≡ Ok (c', n) → AtWrapped
       split-wrapped x = reached r to-wrapped ran-wrapped x
 
   -- ---- Tail
@@ -189,7 +189,7 @@ module _ {c : Counts} {table text : List ℕ} (r : Ready c table text) {b : Bloc
       pub split_stop₄ : {why : Why} → m ≡ Err why → Ran c table text whole m table'
       split_stop₄ x = stop r to_back ran-back x d₅
 
-      abbrev pub split-back : {c' : Counts} {n : NodeNo} → m ≡ Ok (c' , n) → AtBack
+      abbrev pub split-back : {c' : Counts} {n : NodeNo} → m ≡ Ok (c', n) → AtBack
       split-back x = reached r to_back ran-back x
 
   -- ---- Head joined to Tail

@@ -120,14 +120,14 @@ module _ {c : Counts} {table text : List ℕ} (r : Ready c table text) {b : Bloc
     pub start_stop₁ : {why : Why} → m₁ ≡ Err why → Ran c table text whole m₁ table₁
     start_stop₁ x = stop r (d₁ s₀) so₁ x (adds_then (d₂ s₀) (adds_then (d₃ s₀) (adds_then a₄ a₅)))
 
-    module _ {c₁ : Counts} {n₁ : NodeNo} (x₁ : m₁ ≡ Ok (c₁ , n₁)) {m₂ : Made} {table₂ : List ℕ} (o₂ : outcome m₂ table₂ text ≡ fail_made c₁ table₁ text) where
+    module _ {c₁ : Counts} {n₁ : NodeNo} (x₁ : m₁ ≡ Ok (c₁, n₁)) {m₂ : Made} {table₂ : List ℕ} (o₂ : outcome m₂ table₂ text ≡ fail_made c₁ table₁ text) where
       so₂ : Ran c table text (b₂ s₀) m₂ table₂
       so₂ = go-made (at r (d₁ s₀) so₁ x₁).0 fail (d₂ s₀) refl refl o₂
 
       pub start_stop₂ : {why : Why} → m₂ ≡ Err why → Ran c table text whole m₂ table₂
       start_stop₂ x = stop r a₁₂ so₂ x (adds_then (d₃ s₀) (adds_then a₄ a₅))
 
-      module _ {c₂ : Counts} {n₂ : NodeNo} (x₂ : m₂ ≡ Ok (c₂ , n₂)) {m₃ : Made} {table₃ : List ℕ}
+      module _ {c₂ : Counts} {n₂ : NodeNo} (x₂ : m₂ ≡ Ok (c₂, n₂)) {m₃ : Made} {table₃ : List ℕ}
           (o₃ : outcome m₃ table₃ text ≡ flat_alt_made c₂ table₂ text n₂.0 n₁.0) where
         so₃ : Ran c table text (b₃ s₀) m₃ table₃
         so₃ =
@@ -139,7 +139,7 @@ module _ {c : Counts} {table text : List ℕ} (r : Ready c table text) {b : Bloc
         pub start_stop₃ : {why : Why} → m₃ ≡ Err why → Ran c table text whole m₃ table₃
         start_stop₃ x = stop r (d₁₂₃ s₀) so₃ x (adds_then a₄ a₅)
 
-        module _ {c₃ : Counts} {n₃ : NodeNo} (x₃ : m₃ ≡ Ok (c₃ , n₃)) where
+        module _ {c₃ : Counts} {n₃ : NodeNo} (x₃ : m₃ ≡ Ok (c₃, n₃)) where
           t₃ : At c table text (b₃ s₀).draft c₃ table₃ × (n₃.0 ≡ (b₃ s₀).node)
           t₃ = at r (d₁₂₃ s₀) so₃ x₃
 
@@ -171,7 +171,7 @@ module _ {c : Counts} {table text : List ℕ} (r : Ready c table text) {b : Bloc
             pub start_stop₄ : {why : Why} → m₄ ≡ Err why → Ran c table text whole m₄ table₄
             start_stop₄ x = stop r (adds_then (d₁₂₃ s₀) a₄) so₄ x a₅
 
-            module _ {c₄ : Counts} {n₄ : NodeNo} (x₄ : m₄ ≡ Ok (c₄ , n₄)) where
+            module _ {c₄ : Counts} {n₄ : NodeNo} (x₄ : m₄ ≡ Ok (c₄, n₄)) where
               t₄ : At c table text (b₄ s₀ b ps ss qs others the-body the-before the-behind).draft c₄ table₄ × (n₄.0 ≡ (b₄ s₀ b ps ss qs others the-body the-before the-behind).node)
               t₄ = at r (adds_then (d₁₂₃ s₀) a₄) so₄ x₄
 

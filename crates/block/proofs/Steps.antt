@@ -67,7 +67,7 @@ module _ {c : Counts} {table text : List ℕ} (r : Ready c table text) {b : Bloc
     pub core_stop₁ : {why : Why} → m₁ ≡ Err why → Ran c table text (core s₀ b sh q after) m₁ table₁
     core_stop₁ e = stop r d₁ ran₁ e (adds_then d₂ (adds_then d₃ d₄))
 
-    module _ {c₁ : Counts} {n₁ : NodeNo} (e₁ : m₁ ≡ Ok (c₁ , n₁)) where
+    module _ {c₁ : Counts} {n₁ : NodeNo} (e₁ : m₁ ≡ Ok (c₁, n₁)) where
       pub core_asks₂ : Ready c₁ table₁ text × Bodied c₁ b × (n₁.0 < c₁.nodes)
       core_asks₂ = let t = at r d₁ ran₁ e₁ in (ready t.0, bodied_later t.0 k, rw t.1 (counted-node t.0 d₁.present))
 
@@ -78,7 +78,7 @@ module _ {c : Counts} {table text : List ℕ} (r : Ready c table text) {b : Bloc
         pub core_stop₂ : {why : Why} → m₂ ≡ Err why → Ran c table text (core s₀ b sh q after) m₂ table₂
         core_stop₂ e = stop r d₁₂ so₂ e (adds_then d₃ d₄)
 
-        module _ {c₂ : Counts} {n₂ : NodeNo} (e₂ : m₂ ≡ Ok (c₂ , n₂)) where
+        module _ {c₂ : Counts} {n₂ : NodeNo} (e₂ : m₂ ≡ Ok (c₂, n₂)) where
           pub core_asks₃ : Ready c₂ table₂ text × (sh.none.0 < c₂.nodes) × (has_all c₂ after ≡ true)
           core_asks₃ = let t = at r d₁₂ so₂ e₂ in (ready t.0, (shares_later t.0 j).none, counted-list t.0 after (stay-below d₁₂ after (start-list r after h)))
 
@@ -89,7 +89,7 @@ module _ {c : Counts} {table text : List ℕ} (r : Ready c table text) {b : Bloc
             pub core_stop₃ : {why : Why} → m₃ ≡ Err why → Ran c table text (core s₀ b sh q after) m₃ table₃
             core_stop₃ e = stop r (adds_then d₁₂ d₃) so₃ e d₄
 
-            pub core_last : {c₃ : Counts} {n₃ : NodeNo} → m₃ ≡ Ok (c₃ , n₃) → {m₄ : Made} {table₄ : List ℕ}
+            pub core_last : {c₃ : Counts} {n₃ : NodeNo} → m₃ ≡ Ok (c₃, n₃) → {m₄ : Made} {table₄ : List ℕ}
                 → outcome m₄ table₄ text ≡ append_made c₃ table₃ text n₂.0 n₃.0 → Ran c table text (core s₀ b sh q after) m₄ table₄
             unfolding core
             core_last e₃ o =

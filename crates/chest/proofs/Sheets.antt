@@ -95,7 +95,7 @@ none_lined input v s = record { valid = v; shares = s; said = nil; is = s.none; 
 module _ {shared : Shared} {input : List ℕ} {at : ℕ} {c : Counts} {t x : List ℕ} {n : NodeNo} (l : Lining shared input at c t x n) where
   pub one_lined : {end : ℕ} → LineEnds input at end → at < length input
       → {r : Made} {t' x' : List ℕ} → ((d : Doc) → Shares c t x shared → Is c t x n d → Gives c t x r t' x' (append_doc d (part_doc (between input at end))))
-      → {c' : Counts} {n' : NodeNo} → r ≡ Ok (c' , n') → Lining shared input (end + 1) c' t' x' n'
+      → {c' : Counts} {n' : NodeNo} → r ≡ Ok (c', n') → Lining shared input (end + 1) c' t' x' n'
   unfolding joined_doc
   one_lined {end} e h adds {c'} {n'} is =
       let b = adds l.said l.shares l.is c' n' is l.valid in

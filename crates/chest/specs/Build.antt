@@ -29,10 +29,10 @@ pub record Lined (input : List ℕ) (shared : Shared) (c : Counts) (n : NodeNo) 
 
 -- that; or one of them that doesn't fit
 abbrev pub Joined : List ℕ → Shared → Result (Counts × NodeNo × ℕ) NoRoom → List ℕ → List ℕ → Type 0
-Joined input shared (Ok (c , n , line)) table text = Lined input shared c n line table text
+Joined input shared (Ok (c, n, line)) table text = Lined input shared c n line table text
 Joined input shared (Err e) table text = AtLine input e
 
 -- the counted part of a sheet validates, and its node unfolds to the input's document; else a line of the input, or the last, is named
 abbrev pub Shows : List ℕ → Result (Counts × NodeNo) NoRoom → List ℕ → List ℕ → Type 0
-Shows input (Ok (c , n)) table text = ValidSoFar c table text × Is c table text n (sheet_doc input)
+Shows input (Ok (c, n)) table text = ValidSoFar c table text × Is c table text n (sheet_doc input)
 Shows input (Err e) table text = Named input e

@@ -25,12 +25,12 @@ abbrev pub left : ℕ → List ℕ → List ℕ → List ℕ → Left
 left answer table text counts = record { answer = answer; table = table; text = text; counts = counts }
 
 abbrev pub answer_of : Made → ℕ
-answer_of (Ok (c , n)) = 0
+answer_of (Ok (c, n)) = 0
 answer_of (Err why) = number why
 
 -- a refusal leaves them; words past the third are left in any case
 abbrev pub counts_after : Made → List ℕ → List ℕ
-counts_after (Ok (c , n)) counts = c.nodes ∷ c.bytes ∷ n.0 ∷ drop counts_words counts
+counts_after (Ok (c, n)) counts = c.nodes ∷ c.bytes ∷ n.0 ∷ drop counts_words counts
 counts_after (Err why) counts = counts
 
 abbrev pub left_by : Outcome → List ℕ → Left

@@ -53,18 +53,18 @@ module _ {c c' : Counts} {t x : List ℕ} {o : Outcome} {d : Doc} {n : NodeNo} (
       }
 
 module _ {c : Counts} {t x : List ℕ} where
-  pub after : {r : Made} {t' x' : List ℕ} {d : Doc} {c' : Counts} {n : NodeNo} {o : Outcome} {e : Doc} → Gives c t x r t' x' d → r ≡ Ok (c' , n) → (Builds c t x (outcome r t' x') d c' n → Promise c' t' x' o e) → Promise c t x o e
+  pub after : {r : Made} {t' x' : List ℕ} {d : Doc} {c' : Counts} {n : NodeNo} {o : Outcome} {e : Doc} → Gives c t x r t' x' d → r ≡ Ok (c', n) → (Builds c t x (outcome r t' x') d c' n → Promise c' t' x' o e) → Promise c t x o e
   after {c' = c'} {n = n} g is f = λ k m e v. let b = g c' n is v in then b (f b k m e b.valid)
 
   pub refused : {r : Made} {t' x' : List ℕ} {d : Doc} {why : Why} → r ≡ Err why → Gives c t x r t' x' d
   refused is = λ k m e v. let z : ◌≡◌ {A = ℕ} 0 1 = cc in absurd (omega arith)
 
-  pub given : {n : NodeNo} {d : Doc} → Is c t x n d → Gives c t x (Ok (c , n)) t x d
+  pub given : {n : NodeNo} {d : Doc} → Is c t x n d → Gives c t x (Ok (c, n)) t x d
   given {n} {d} i = λ k m e v.
       let p : c ≡ k = cc in
       let q : n ≡ m = cc in
-      let b : Builds c t x (outcome (Ok (c , n)) t x) d c n = record { valid = v; grown = omega arith; older = λ j h. refl; present = i.there; unfolds = i.unfolds } in
-      subst (λ (z : Counts). Builds c t x (outcome (Ok (c , n)) t x) d z m) p (subst (λ (z : NodeNo). Builds c t x (outcome (Ok (c , n)) t x) d c z) q b)
+      let b : Builds c t x (outcome (Ok (c, n)) t x) d c n = record { valid = v; grown = omega arith; older = λ j h. refl; present = i.there; unfolds = i.unfolds } in
+      subst (λ (z : Counts). Builds c t x (outcome (Ok (c, n)) t x) d z m) p (subst (λ (z : NodeNo). Builds c t x (outcome (Ok (c, n)) t x) d c z) q b)
 
   -- ---- each constructor
 
@@ -114,5 +114,5 @@ module _ {r : Made} {t x : List ℕ} {o : Outcome} (is : outcome r t x ≡ o) wh
   pub stops : (f : Counts → ℕ → List ℕ → List ℕ → Outcome) {why : Why} → r ≡ Err why → outcome (Err why) t x ≡ next o f
   stops f e = ap (λ (z : Outcome). next z f) (answers e)
 
-  pub goes : (f : Counts → ℕ → List ℕ → List ℕ → Outcome) {c : Counts} {n : NodeNo} → r ≡ Ok (c , n) → f c n.0 t x ≡ next o f
+  pub goes : (f : Counts → ℕ → List ℕ → List ℕ → Outcome) {c : Counts} {n : NodeNo} → r ≡ Ok (c, n) → f c n.0 t x ≡ next o f
   goes f e = ap (λ (z : Outcome). next z f) (answers e)

@@ -43,7 +43,7 @@ module _ (c₀ : Counts) (t₀ x₀ : List ℕ) (separator all : Doc) where
   pub record Adding (ws : List (List ℕ)) (c : Counts) (t x : List ℕ) (n between : NodeNo) : Type 0 where
     pub said : Doc
     pub next : Doc
-    pub gives : Gives c₀ t₀ x₀ (Ok (c , n)) t x said
+    pub gives : Gives c₀ t₀ x₀ (Ok (c, n)) t x said
     pub between_is : Is c₀ t₀ x₀ between next
     pub rest : on_doc separator said next ws ≡ all
 
@@ -57,7 +57,7 @@ Joins c t x n between w r t' x' = (d e : Doc) → Is c t x n d → Is c t x betw
 module _ {c₀ : Counts} {t₀ x₀ : List ℕ} {separator all : Doc} {ws : List (List ℕ)} {c : Counts} {t x : List ℕ} {n between : NodeNo} (a : Adding c₀ t₀ x₀ separator all ws c t x n between) where
   pub one-added : (w : List ℕ) (rest : List (List ℕ)) → ws ≡ w ∷ rest
       → {r : Made} {t' x' : List ℕ} → Joins c t x n between w r t' x'
-      → {c' : Counts} {n' between' : NodeNo} → r ≡ Ok (c' , n') → Is c₀ t₀ x₀ between' separator → Adding c₀ t₀ x₀ separator all rest c' t' x' n' between'
+      → {c' : Counts} {n' between' : NodeNo} → r ≡ Ok (c', n') → Is c₀ t₀ x₀ between' separator → Adding c₀ t₀ x₀ separator all rest c' t' x' n' between'
   unfolding on_doc
   one-added w rest are {r} {t'} {x'} joins {c'} {n'} is i =
       let d = append_doc (append_doc a.said a.next) (leaf_doc w) in
@@ -69,9 +69,9 @@ module _ {c₀ : Counts} {t₀ x₀ : List ℕ} {separator all : Doc} {ws : List
         rest = ap (on_doc separator a.said a.next) (sym are) ∙ a.rest;
       }
 
-  pub all-added : ws ≡ [] → Gives c₀ t₀ x₀ (Ok (c , n)) t x all
+  pub all-added : ws ≡ [] → Gives c₀ t₀ x₀ (Ok (c, n)) t x all
   unfolding on_doc
-  all-added none = subst (λ (d : Doc). Gives c₀ t₀ x₀ (Ok (c , n)) t x d) (sym (ap (on_doc separator a.said a.next) none) ∙ a.rest) a.gives
+  all-added none = subst (λ (d : Doc). Gives c₀ t₀ x₀ (Ok (c, n)) t x d) (sym (ap (on_doc separator a.said a.next) none) ∙ a.rest) a.gives
 
 -- ---- the words of a text
 
@@ -94,7 +94,7 @@ fill_start c t x none softline s most at e =
 module _ {c₀ : Counts} {t₀ x₀ : List ℕ} {none softline : NodeNo} {s : List ℕ} {most at : ℕ} {c : Counts} {t x : List ℕ} {n between : NodeNo} (f : Filling c₀ t₀ x₀ none softline s most at c t x n between) where
   pub fill-next : (size at' : ℕ) → at < length s → size ≡ together most (drop at s) → 0 < size → at' ≡ skipped s (at + size)
       → {r : Made} {t' x' : List ℕ} → Joins c t x n between (take (at + size - at) (drop at s)) r t' x'
-      → {c' : Counts} {n' : NodeNo} → r ≡ Ok (c' , n') → Filling c₀ t₀ x₀ none softline s most at' c' t' x' n' softline
+      → {c' : Counts} {n' : NodeNo} → r ≡ Ok (c', n') → Filling c₀ t₀ x₀ none softline s most at' c' t' x' n' softline
   fill-next size at' h e some e' joins is =
       let same : at + size - at ≡ size = omega arith in
       record {
@@ -103,5 +103,5 @@ module _ {c₀ : Counts} {t₀ x₀ : List ℕ} {none softline : NodeNo} {s : Li
         adding = λ i j. one-added (f.adding i j) (take (at + size - at) (drop at s)) (words_on most (f.left - 1) (drop at' s)) (rw same (words-next most f.left s at size at' h (omega (arith, f.room)) e e')) joins is j;
       }
 
-  pub fill_end : length s ≤ at → Is c₀ t₀ x₀ none nil → Is c₀ t₀ x₀ softline softline_doc → Gives c₀ t₀ x₀ (Ok (c , n)) t x (filled_doc most s)
+  pub fill_end : length s ≤ at → Is c₀ t₀ x₀ none nil → Is c₀ t₀ x₀ softline softline_doc → Gives c₀ t₀ x₀ (Ok (c, n)) t x (filled_doc most s)
   fill_end h i j = all-added (f.adding i j) (ap (words_on most f.left) (done s at h) ∙ no_words most f.left)

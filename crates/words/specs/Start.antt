@@ -37,10 +37,10 @@ Start = Result (Counts × Shared) Why
 
 -- the last node made, or the refusal
 abbrev pub answer : Start → Made
-answer (Ok (c , shared)) = Ok (c , shared.softline)
+answer (Ok (c, shared)) = Ok (c, shared.softline)
 answer (Err why) = Err why
 
 -- the shared nodes, over a valid table
 abbrev pub Started : Start → List ℕ → List ℕ → Type 0
-Started (Ok (c , shared)) table text = ValidSoFar c table text × Shares c table text shared
+Started (Ok (c, shared)) table text = ValidSoFar c table text × Shares c table text shared
 Started (Err why) table text = Unit {0}

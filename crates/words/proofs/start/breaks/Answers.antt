@@ -4,22 +4,22 @@ use Rattle.words.specs.Start.{softline_of, breaking}
 use Rattle.words.proofs.Chain.{new, kept, lines, groups, answers, stops, goes}
 use Rattle.words.proofs.start.breaks.Goals as goal
 
-pub returns-in-Refused : goal.returns-in-Refused
+pub returns-in_err-c : goal.returns-in_err-c
 unfolding breaking
-returns-in-Refused c =
-    (stops c.line-made.ensures softline_of c.in-Refused.is, λ v i j. tt)
+returns-in_err-c c =
+    (stops c.line.ensures softline_of c.in_err-c.was, λ v i j. tt)
 
-pub returns-in-Refused-made : goal.returns-in-Refused-made
+pub returns-in_err-c-2 : goal.returns-in_err-c-2
 unfolding breaking
-returns-in-Refused-made c =
-    (answers c.group-made.ensures c.in-Refused-made.is ∙ goes c.line-made.ensures softline_of c.in-Node.is, λ v i j. tt)
+returns-in_err-c-2 c =
+    (answers c.group.ensures c.in_err-c-2.was ∙ goes c.line.ensures softline_of c.in_ok-c.was, λ v i j. tt)
 
-pub returns-in-Node-made : goal.returns-in-Node-made
+pub returns : goal.returns
 unfolding breaking
-returns-in-Node-made c = (
-  answers c.group-made.ensures c.in-Node-made.is ∙ goes c.line-made.ensures softline_of c.in-Node.is,
+returns c = (
+  answers c.group.ensures c.in_ok-c-2.was ∙ goes c.line.ensures softline_of c.in_ok-c.was,
   λ v i j.
-      let b = lines c.line-made.ensures _ _ c.in-Node.is v in
-      let q = groups (new b) c.group-made.ensures _ _ c.in-Node-made.is b.valid in
+      let b = lines c.line.ensures _ _ c.in_ok-c.was v in
+      let q = groups (new b) c.group.ensures _ _ c.in_ok-c-2.was b.valid in
       (q.valid, record { none = kept q (kept b i); hardline = kept q (kept b j); line = kept q (new b); softline = new q }),
 )

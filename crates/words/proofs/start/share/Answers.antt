@@ -4,22 +4,22 @@ use Rattle.words.specs.Start.{breaks_of, feed_of, sharing}
 use Rattle.words.proofs.Chain.{new, kept, nils, feeds, empty-valid, stops, goes}
 use Rattle.words.proofs.start.share.Goals as goal
 
-pub returns-in-Refused : goal.returns-in-Refused
+pub returns-in_err-c : goal.returns-in_err-c
 unfolding sharing
-returns-in-Refused c =
-    (stops c.nil-made.ensures feed_of c.in-Refused.is, tt)
+returns-in_err-c c =
+    (stops c.nil.ensures feed_of c.in_err-c.was, tt)
 
-pub returns-in-Refused-made : goal.returns-in-Refused-made
+pub returns-in_err-c-2 : goal.returns-in_err-c-2
 unfolding sharing
-returns-in-Refused-made c =
-    (stops c.hardline-made.ensures breaks_of c.in-Refused-made.is ∙ goes c.nil-made.ensures feed_of c.in-Node.is, tt)
+returns-in_err-c-2 c =
+    (stops c.hardline.ensures breaks_of c.in_err-c-2.was ∙ goes c.nil.ensures feed_of c.in_ok-c.was, tt)
 
-pub returns-in-Node-made : goal.returns-in-Node-made
+pub returns : goal.returns
 unfolding sharing
-returns-in-Node-made c =
+returns c =
     let a = c.args in
-    let b = nils c.nil-made.ensures _ _ c.in-Node.is (empty-valid a.table.now a.text.now) in
-    let q = feeds c.hardline-made.ensures _ _ c.in-Node-made.is b.valid in (
-      c.breaks.ensures.0 ∙ goes c.hardline-made.ensures breaks_of c.in-Node-made.is ∙ goes c.nil-made.ensures feed_of c.in-Node.is,
-      c.breaks.ensures.1 q.valid (kept q (new b)) (new q),
+    let b = nils c.nil.ensures _ _ c.in_ok-c.was (empty-valid a.table.now a.text.now) in
+    let q = feeds c.hardline.ensures _ _ c.in_ok-c-2.was b.valid in (
+      c.breaks.ensures.same ∙ goes c.hardline.ensures breaks_of c.in_ok-c-2.was ∙ goes c.nil.ensures feed_of c.in_ok-c.was,
+      c.breaks.ensures.shares q.valid (kept q (new b)) (new q),
     )
