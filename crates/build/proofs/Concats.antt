@@ -13,14 +13,11 @@ use lib.ListN.{length, get_or, take, drop, drop_of_length-le}
 use lib.Seq.{drop-cons}
 use Rattle.build.specs.declared.Counts.{Counts}
 use Rattle.build.specs.declared.Why.{Why}
-use Rattle.build.specs.declared.Made.{Made}
-use Rattle.build.specs.declared.Made.TheVariants.{Node, Refused}
-use Rattle.build.specs.declared.Asked.{Asked}
-use Rattle.build.specs.declared.Asked.TheVariants.{Granted, Denied}
+use Rattle.std.specs.Prelude.{Ok, Err}
 use Rattle.build.specs.Draft.{Draft, Built, counted}
 use Rattle.build.specs.Parts.{joined, concat}
 use Rattle.build.specs.Solid.{solid}
-use Rattle.build.specs.Outcome.{asked, answered, outcome, onward, made}
+use Rattle.build.specs.Outcome.{Made, Asked, asked, answered, outcome, onward, made}
 use Rattle.build.specs.Constructors.{has_all, nil_made, append_made, concat_made}
 use Rattle.build.proofs.Grow.{joined-grown}
 use Rattle.build.proofs.Joins.{Below, below_of, joined-counts, Along, along-start, join_all, join-on, join-whole}
@@ -42,11 +39,11 @@ module _ (c : Counts) (table text : List ℕ) (present : Bool) (whole : Draft �
       let e = joined-counts s₀ first rest (start c table text n b).whole (operands p).0 (operands p).1 in
       rw (← is) (e.0, e.1 ∙ sym (add-zero c.bytes))
 
-  join-refused : (why : Why) → asked c (length table) (length text) present true true (c.nodes + joins) (c.bytes + 0) ≡ Denied why
-      → outcome (Refused why) table text ≡ made c table text present true true whole
+  join-refused : (why : Why) → asked c (length table) (length text) present true true (c.nodes + joins) (c.bytes + 0) ≡ Err why
+      → outcome (Err why) table text ≡ made c table text present true true whole
   join-refused why d = refuse c table text present true true whole _ _ right-counts why d
 
-  module _ (granted : asked c (length table) (length text) present true true (c.nodes + joins) (c.bytes + 0) ≡ Granted) where
+  module _ (granted : asked c (length table) (length text) present true true (c.nodes + joins) (c.bytes + 0) ≡ Ok tt) where
     join_begun : Begun c table text present true true whole
     join_begun = begin c table text present true true whole _ _ right-counts (rw (← is) (joined-grown s₀ first rest)) granted
 
@@ -54,7 +51,7 @@ module _ (c : Counts) (table text : List ℕ) (present : Bool) (whole : Draft �
     join-start = along-start join_begun first rest (operands join_begun.facts.operands).0 is
 
   -- the loop, from the first node
-  pub join-made : {m : Made} → m ≡ answered (asked c (length table) (length text) present true true (c.nodes + joins) (c.bytes + 0)) (Node c (record { 0 = first }))
+  pub join-made : {m : Made} → m ≡ answered (asked c (length table) (length text) present true true (c.nodes + joins) (c.bytes + 0)) (Ok (c, record { 0 = first }))
       → join_all m table text rest ≡ made c table text present true true whole
   join-made e =
       join-whole (asked c (length table) (length text) present true true (c.nodes + joins) (c.bytes + 0)) (record { 0 = first }) rest join-refused
@@ -81,11 +78,11 @@ module _ (c : Counts) (table text ns : List ℕ) (some : 0 < length ns) where
   abbrev concat-asked : ℕ → Asked
   concat-asked joins = asked c (length table) (length text) (has_all c ns) true true (c.nodes + joins) (c.bytes + 0)
 
-  pub concat-made : {m : Made} → m ≡ answered (concat-asked (solid (take (c.nodes * 4) table) ns - 1)) (Node c (record { 0 = get_or ns 0 0 }))
+  pub concat-made : {m : Made} → m ≡ answered (concat-asked (solid (take (c.nodes * 4) table) ns - 1)) (Ok (c, record { 0 = get_or ns 0 0 }))
       → join_all m table text (drop 1 ns) ≡ concat_made c table text ns
   unfolding counted
   concat-made e =
-      let head = ap (λ (l : List ℕ). answered (concat-asked (solid (take (c.nodes * 4) table) l - 1)) (Node c (record { 0 = get_or ns 0 0 }))) (head-is ns some) in
+      let head = ap (λ (l : List ℕ). answered (concat-asked (solid (take (c.nodes * 4) table) l - 1)) (Ok (c, record { 0 = get_or ns 0 0 }))) (head-is ns some) in
       join-made c table text (has_all c ns) (λ s. concat s ns) (get_or ns 0 0) (drop 1 ns) (concat-is ns (counted c table text) some) concat-operands (e ∙ head)
 
 -- of none one Nil

@@ -12,13 +12,11 @@ use Rattle.choice.specs.Pick.{pick}
 use Rattle.table.specs.declared.NodeNo.{NodeNo}
 use Rattle.build.specs.declared.Counts.{Counts}
 use Rattle.build.specs.declared.Why.{Why}
-use Rattle.build.specs.declared.Made.{Made}
-use Rattle.build.specs.declared.Made.TheVariants.{Node, Refused}
-use Rattle.build.specs.declared.Asked.{Asked}
+use Rattle.std.specs.Prelude.{Ok, Err}
 use Rattle.build.specs.Draft.{Draft, counts_of, counted, older, add}
 use Rattle.build.specs.Parts.{is_nil, nest, align, hang}
 use Rattle.build.specs.Solid.{nest_adds}
-use Rattle.build.specs.Outcome.{Outcome, asked, outcome, settled}
+use Rattle.build.specs.Outcome.{Made, Asked, Outcome, asked, outcome, settled}
 use Rattle.build.specs.Constructors.{has, nest_right, nest_made, align_made, hang_made}
 use Rattle.build.proofs.Grow.{Grown, same, add-grown, nest-grown, hang-grown}
 use Rattle.build.proofs.Choices.{nest-stays, nest-wraps}
@@ -97,12 +95,12 @@ module _ (c : Counts) (table text : List ℕ) (n amount way : ℕ) where
   last = add-grown (nest s₀ n amount way).draft 9 (nest s₀ n amount way).node 0 0
 
   module _ {m : Made} {table₁ text₁ : List ℕ} (o₁ : outcome m table₁ text₁ ≡ settled (nest-asked (adds + 1)) (nest s₀ n amount way) table text) where
-    pub hang-refused : {why : Why} → m ≡ Refused why → outcome m table₁ text₁ ≡ hang_made c table text n amount way
+    pub hang-refused : {why : Why} → m ≡ Err why → outcome m table₁ text₁ ≡ hang_made c table text n amount way
     hang-refused e =
         first_denied (nest-asked (adds + 1)) (nest s₀ n amount way) table text o₁
         (refuse c table text (has c n) (nest_right amount way) true (λ s. hang s n amount way) _ _ right-counts) e
 
-    pub hang-made : {c₁ : Counts} {n₁ : NodeNo} → m ≡ Node c₁ n₁ → {m₂ : Made} {table₂ text₂ : List ℕ} → outcome m₂ table₂ text₂ ≡ align_made c₁ table₁ text₁ n₁.0
+    pub hang-made : {c₁ : Counts} {n₁ : NodeNo} → m ≡ Ok (c₁, n₁) → {m₂ : Made} {table₂ text₂ : List ℕ} → outcome m₂ table₂ text₂ ≡ align_made c₁ table₁ text₁ n₁.0
         → outcome m₂ table₂ text₂ ≡ hang_made c table text n amount way
     unfolding counted hang
     hang-made {c₁} {n₁} e o =

@@ -15,14 +15,11 @@ use Rattle.table.specs.Fault.{columns_right}
 use Rattle.table.specs.declared.NodeNo.{NodeNo}
 use Rattle.build.specs.declared.Counts.{Counts}
 use Rattle.build.specs.declared.Why.{Why}
-use Rattle.build.specs.declared.Made.{Made}
-use Rattle.build.specs.declared.Made.TheVariants.{Node, Refused}
-use Rattle.build.specs.declared.Asked.{Asked}
-use Rattle.build.specs.declared.Asked.TheVariants.{Granted, Denied}
+use Rattle.std.specs.Prelude.{Ok, Err}
 use Rattle.build.specs.Draft.{Draft, Built, counts_of, counted, older, add, write}
 use Rattle.build.specs.Parts.{is_nil, nil, text, append, hang, indent}
 use Rattle.build.specs.Solid.{nest_adds, indent_adds}
-use Rattle.build.specs.Outcome.{asked, outcome, onward}
+use Rattle.build.specs.Outcome.{Made, Asked, asked, outcome, onward}
 use Rattle.build.specs.Constructors.{has, nest_right, text_made, append_made, hang_made, indent_made}
 use Rattle.build.proofs.Grow.{Whole, Grown, same, then, whole-grown, more-nodes, add-grown, write-grown, append-grown, text-grown, hang-grown}
 use Rattle.build.proofs.Words.{old-word, new_word, append-present}
@@ -133,10 +130,10 @@ module _ (c : Counts) (table letters : List ℕ) (n by : ℕ) where
       let e = indent-counts s₀ n by (start c table letters h b).whole (ltb-true n c.nodes p) in
       (ap (λ (x : Counts). x.nodes) e, ap (λ (x : Counts). x.bytes) e)
 
-  pub indent-refused : {r : Asked} → r ≡ indent-asked → {why : Why} → r ≡ Denied why → outcome (Refused why) table letters ≡ indent_made c table letters n by
+  pub indent-refused : {r : Asked} → r ≡ indent-asked → {why : Why} → r ≡ Err why → outcome (Err why) table letters ≡ indent_made c table letters n by
   indent-refused is d = refuse c table letters (has c n) (leb by 1000) true (λ s. indent s n by) _ _ right-counts _ (sym is ∙ d)
 
-  module _ {r : Asked} (is : r ≡ indent-asked) (told : r ≡ Granted) where
+  module _ {r : Asked} (is : r ≡ indent-asked) (told : r ≡ Ok tt) where
     grown₁ : Grown s₀ s₁.draft
     grown₁ = text-grown s₀ (replicate by 32) by
 
@@ -160,7 +157,7 @@ module _ (c : Counts) (table letters : List ℕ) (n by : ℕ) where
         → Went table letters s₁ m table' letters'
     indent_first o = step begun begun.stands (λ s. text s (replicate by 32) by) (same s₀) grown₁ (then grown₂ grown₃) refl refl (blanks-right by) o
 
-    module _ {m : Made} {table₁ letters₁ : List ℕ} (went : Went table letters s₁ m table₁ letters₁) {c₁ : Counts} {n₁ : NodeNo} (e : m ≡ Node c₁ n₁) where
+    module _ {m : Made} {table₁ letters₁ : List ℕ} (went : Went table letters s₁ m table₁ letters₁) {c₁ : Counts} {n₁ : NodeNo} (e : m ≡ Ok (c₁, n₁)) where
       blank : s₁.node < s₁.draft.counts.nodes
       unfolding counted
       blank = text-present s₀ (replicate by 32) by
@@ -177,7 +174,7 @@ module _ (c : Counts) (table letters : List ℕ) (n by : ℕ) where
           let both : has c₁ s₁.node && has c₁ n ≡ true = rw t.0.counts (rw (lt-ltb _ _ blank, lt-ltb _ _ there) refl) in
           step begun t.0 (λ s. append s s₁.node n) grown₁ grown₂ grown₃ both refl refl o'
 
-      indent_last : {m₂ : Made} {table₂ letters₂ : List ℕ} → Went table letters s₂ m₂ table₂ letters₂ → {c₂ : Counts} {n₂ : NodeNo} → m₂ ≡ Node c₂ n₂
+      indent_last : {m₂ : Made} {table₂ letters₂ : List ℕ} → Went table letters s₂ m₂ table₂ letters₂ → {c₂ : Counts} {n₂ : NodeNo} → m₂ ≡ Ok (c₂, n₂)
           → {m₃ : Made} {table₃ letters₃ : List ℕ} → outcome m₃ table₃ letters₃ ≡ hang_made c₂ table₂ letters₂ n₂.0 by 0
           → outcome m₃ table₃ letters₃ ≡ indent_made c table letters n by
       unfolding indent
@@ -188,7 +185,7 @@ module _ (c : Counts) (table letters : List ℕ) (n by : ℕ) where
           let right : nest_right by 0 ≡ true = rw (le-leb by 1000 indent_by) refl in
           finish begun (step begun t.0 (λ s. hang s s₂.node by 0) (then grown₁ grown₂) grown₃ (same (indent s₀ n by).draft) present right refl o')
 
-    indent-made : (m₁ : Made) (table₁ letters₁ : List ℕ) → outcome m₁ table₁ letters₁ ≡ text_made c table letters (replicate by 32) by
+    pub indent-made : (m₁ : Made) (table₁ letters₁ : List ℕ) → outcome m₁ table₁ letters₁ ≡ text_made c table letters (replicate by 32) by
         → (m₂ : Made) (table₂ letters₂ : List ℕ) → outcome m₂ table₂ letters₂ ≡ onward m₁ table₁ letters₁ (λ c₁ n₁. append_made c₁ table₁ letters₁ n₁ n)
         → {m₃ : Made} {table₃ letters₃ : List ℕ} → outcome m₃ table₃ letters₃ ≡ onward m₂ table₂ letters₂ (λ c₂ n₂. hang_made c₂ table₂ letters₂ n₂ by 0)
         → outcome m₃ table₃ letters₃ ≡ indent_made c table letters n by
@@ -196,14 +193,3 @@ module _ (c : Counts) (table letters : List ℕ) (n by : ℕ) where
         let w₁ = indent_first o₁ in
         let w₂ = indent_second w₁ w₁.answer (o₂ ∙ gone w₁ (λ c₁ n₁. append_made c₁ table₁ letters₁ n₁ n)) in
         indent_last w₁ w₁.answer w₂ w₂.answer (o₃ ∙ gone w₂ (λ c₂ n₂. hang_made c₂ table₂ letters₂ n₂ by 0))
-
-    -- the blanks' refusal is handed on; of their node the rest goes on
-    pub indent_handed-on : (m₁ : Made) (table₁ letters₁ : List ℕ) → outcome m₁ table₁ letters₁ ≡ text_made c table letters (replicate by 32) by → {why : Why}
-        → m₁ ≡ Refused why → outcome m₁ table₁ letters₁ ≡ indent_made c table letters n by
-    indent_handed-on m₁ table₁ letters₁ o₁ e = indent-made m₁ table₁ letters₁ o₁ m₁ table₁ letters₁ (rw e refl) (rw e refl)
-
-    pub indent_went-on : (m₁ : Made) (table₁ letters₁ : List ℕ) → outcome m₁ table₁ letters₁ ≡ text_made c table letters (replicate by 32) by → {c₁ : Counts} {n₁ : NodeNo}
-        → m₁ ≡ Node c₁ n₁ → (m₂ : Made) (table₂ letters₂ : List ℕ) → outcome m₂ table₂ letters₂ ≡ append_made c₁ table₁ letters₁ n₁.0 n
-        → {m₃ : Made} {table₃ letters₃ : List ℕ} → outcome m₃ table₃ letters₃ ≡ onward m₂ table₂ letters₂ (λ c₂ n₂. hang_made c₂ table₂ letters₂ n₂ by 0)
-        → outcome m₃ table₃ letters₃ ≡ indent_made c table letters n by
-    indent_went-on m₁ table₁ letters₁ o₁ e m₂ table₂ letters₂ o₂ o₃ = indent-made m₁ table₁ letters₁ o₁ m₂ table₂ letters₂ (rw e o₂) o₃

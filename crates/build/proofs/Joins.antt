@@ -10,21 +10,19 @@ use native.Mathlib.Omega.{arith}
 use mathlib.Core.Path.{◌≡◌, refl, sym, ap, ap₂, ◌∙◌, subst}
 use mathlib.Core.Bool.{Bool, true, false, ◌&&◌}
 use mathlib.Core.List.{List, [], ◌∷◌}
-use lib.ListN.{length, drop}
+use lib.ListN.{length, take, drop, length-drop}
+use lib.Seq.{take_all}
 use borrow.Author.Tests.{ltb-true, lt-ltb}
 use Rattle.choice.specs.Pick.{pick}
 use Rattle.table.specs.declared.NodeNo.{NodeNo}
 use Rattle.choice.proofs.Tests.{and-true}
 use Rattle.build.specs.declared.Counts.{Counts}
-use Rattle.build.specs.declared.Made.{Made}
+use Rattle.std.specs.Prelude.{Ok, Err}
 use Rattle.build.specs.declared.Why.{Why}
-use Rattle.build.specs.declared.Made.TheVariants.{Node, Refused}
-use Rattle.build.specs.declared.Asked.{Asked}
-use Rattle.build.specs.declared.Asked.TheVariants.{Granted, Denied}
 use Rattle.build.specs.Draft.{Draft, Built, counted, older, add}
 use Rattle.build.specs.Parts.{is_nil, append, joined}
 use Rattle.build.specs.Solid.{solid}
-use Rattle.build.specs.Outcome.{Outcome, outcome, onward, answered, made}
+use Rattle.build.specs.Outcome.{Made, Asked, Outcome, outcome, onward, answered, made}
 use Rattle.build.specs.Constructors.{has, has_all, append_made}
 use Rattle.build.proofs.Grow.{Whole, Grown, same, then, whole-grown, more-nodes, add-grown, append-grown, joined-grown}
 use Rattle.build.proofs.Words.{old-word, new_word, append-present}
@@ -122,7 +120,7 @@ module _ {c₀ : Counts} {table₀ text₀ : List ℕ} {present amount right : B
         rw (← rest-is) (joined-grown (append s n m).draft (append s n m).node rest) in
         step begun along.stands (λ x. append x n m) along.grown (append-grown s n m) after two refl refl o
 
-    pub along-next : {r : Made} {table' text' : List ℕ} → outcome r table' text' ≡ append_made c table text n m → {c' : Counts} {n' : NodeNo} → r ≡ Node c' n'
+    pub along-next : {r : Made} {table' text' : List ℕ} → outcome r table' text' ≡ append_made c table text n m → {c' : Counts} {n' : NodeNo} → r ≡ Ok (c', n')
         → Along c₀ table₀ text₀ whole c' n'.0 rest table' text'
     unfolding counted
     along-next {table' = table'} {text' = text'} o {c'} {n'} e =
@@ -138,12 +136,12 @@ module _ {c₀ : Counts} {table₀ text₀ : List ℕ} {present amount right : B
         }
 
   pub along-end : {c : Counts} {n : NodeNo} {table text : List ℕ} → Along c₀ table₀ text₀ whole c n.0 [] table text
-      → outcome (Node c n) table text ≡ made c₀ table₀ text₀ present amount right whole
+      → outcome (Ok (c, n)) table text ≡ made c₀ table₀ text₀ present amount right whole
   unfolding counted joined
   along-end {table = table} {text = text} a =
       finish begun
       (record {
-        answer = ap (λ (b : Built). Node b.draft.counts (record { 0 = b.node })) a.ends;
+        answer = ap (λ (b : Built). Ok (b.draft.counts, record { 0 = b.node })) a.ends;
         stands = subst (λ (b : Built). Stands table₀ text₀ b.draft b.draft.counts table text) a.ends a.stands;
       })
 
@@ -158,18 +156,15 @@ pub join-on : (m : Made) (table text : List ℕ) {r : Made} {table' text' : List
 unfolding join_all
 join-on m table text k ks o = ap (λ (x : Outcome). join_all x.made x.table x.text ks) o
 
-join-refused-on : (why : Why) (table text ks : List ℕ) → join_all (Refused why) table text ks ≡ outcome (Refused why) table text
-unfolding join_all
-join-refused-on why table text [] = refl
-join-refused-on why table text (k ∷ ks) = join-refused-on why table text ks
-
 -- nothing is joined to a refusal
-pub join-refused : {m : Made} {why : Why} (table text ks : List ℕ) → m ≡ Refused why → join_all m table text ks ≡ outcome m table text
-join-refused {m} {why} table text ks e = rw e (join-refused-on why table text ks)
+pub join-refused : (why : Why) (table text ks : List ℕ) → join_all (Err why) table text ks ≡ outcome (Err why) table text
+unfolding join_all
+join-refused why table text [] = refl
+join-refused why table text (k ∷ ks) = join-refused why table text ks
 
 module _ {c₀ : Counts} {table₀ text₀ : List ℕ} {present amount right : Bool} {whole : Draft → Built} (begun : Begun c₀ table₀ text₀ present amount right whole) where
   join_along : (ks : List ℕ) {c : Counts} {n : NodeNo} {table text : List ℕ} → Below c₀.nodes ks → Along c₀ table₀ text₀ whole c n.0 ks table text
-      → join_all (Node c n) table text ks ≡ made c₀ table₀ text₀ present amount right whole
+      → join_all (Ok (c, n)) table text ks ≡ made c₀ table₀ text₀ present amount right whole
   unfolding join_all
   join_along [] b a = along-end begun a
   join_along (k ∷ ks) {c} {n} {table} {text} b a =
@@ -179,20 +174,25 @@ module _ {c₀ : Counts} {table₀ text₀ : List ℕ} {present amount right : B
       let next = along-next begun a b.0 {r = x.made} {table' = x.table} {text' = x.text} told went.answer in
       ap (λ (m : Made). join_all m x.table x.text ks) went.answer ∙ join_along ks b.1 next
 
--- at the head of either loop: i nodes are joined, and the rest of them comes to what the first answer comes to
-pub record Joining (rest : List ℕ → List ℕ) (nodes text table₀ : List ℕ) (made₀ : Made) (table : List ℕ) (made : Made) (i : ℕ) : Type 0 where
-  pub some : 1 ≤ i
-  pub inside : i ≤ length nodes
-  pub kept : length table ≡ length table₀
-  pub joins : join_all made table text (rest (drop i nodes)) ≡ join_all made₀ table₀ text (rest (drop 1 nodes))
+-- all but the first
+abbrev pub rest_of : List ℕ → List ℕ
+rest_of ns = take (length ns - 1) (drop 1 ns)
+
+pub rest_of-is : (ns : List ℕ) → rest_of ns ≡ drop 1 ns
+rest_of-is ns = take_all (length ns - 1) (drop 1 ns) (simp length-drop (omega arith))
+
+-- at the head of either loop: what is left to join comes to the whole
+pub record Joining (text : List ℕ) (whole : Outcome) (long : ℕ) (table : List ℕ) (made : Counts × NodeNo) (left : List ℕ) : Type 0 where
+  pub kept : length table ≡ long
+  pub joins : join_all (Ok made) table text left ≡ whole
 
 -- the loop from its first answer
 pub join-whole : (A : Asked) {c₀ : Counts} {table₀ text₀ : List ℕ} {present amount right : Bool} {whole : Draft → Built} (n : NodeNo) (ks : List ℕ)
-    → ((why : Why) → A ≡ Denied why → outcome (Refused why) table₀ text₀ ≡ made c₀ table₀ text₀ present amount right whole)
-    → (A ≡ Granted → Begun c₀ table₀ text₀ present amount right whole × Below c₀.nodes ks × Along c₀ table₀ text₀ whole c₀ n.0 ks table₀ text₀) → {m : Made}
-    → m ≡ answered A (Node c₀ n) → join_all m table₀ text₀ ks ≡ made c₀ table₀ text₀ present amount right whole
+    → ((why : Why) → A ≡ Err why → outcome (Err why) table₀ text₀ ≡ made c₀ table₀ text₀ present amount right whole)
+    → (A ≡ Ok tt → Begun c₀ table₀ text₀ present amount right whole × Below c₀.nodes ks × Along c₀ table₀ text₀ whole c₀ n.0 ks table₀ text₀) → {m : Made}
+    → m ≡ answered A (Ok (c₀, n)) → join_all m table₀ text₀ ks ≡ made c₀ table₀ text₀ present amount right whole
 join-whole A {c₀} {table₀} {text₀} {present} {amount} {right} {whole} n ks refused granted e = ap (λ (m : Made). join_all m table₀ text₀ ks) e ∙ go A refl
   where
-    go : (a : Asked) → A ≡ a → join_all (answered a (Node c₀ n)) table₀ text₀ ks ≡ made c₀ table₀ text₀ present amount right whole
-    go Granted q = let g = granted q in join_along g.0 ks g.1 g.2
-    go (Denied why) q = join-refused-on why table₀ text₀ ks ∙ refused why q
+    go : (a : Asked) → A ≡ a → join_all (answered a (Ok (c₀, n))) table₀ text₀ ks ≡ made c₀ table₀ text₀ present amount right whole
+    go (Ok u) q = let g = granted q in join_along g.0 ks g.1 g.2
+    go (Err why) q = join-refused why table₀ text₀ ks ∙ refused why q

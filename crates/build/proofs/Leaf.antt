@@ -15,13 +15,10 @@ use Rattle.table.specs.declared.NodeNo.{NodeNo}
 use Rattle.table.specs.declared.Words.{Words}
 use Rattle.build.specs.declared.Counts.{Counts}
 use Rattle.build.specs.declared.Why.{Why}
-use Rattle.build.specs.declared.Made.{Made}
-use Rattle.build.specs.declared.Made.TheVariants.{Node, Refused}
+use Rattle.std.specs.Prelude.{Ok, Err}
 use Rattle.build.specs.declared.Asks.{Asks}
-use Rattle.build.specs.declared.Asked.{Asked}
-use Rattle.build.specs.declared.Asked.TheVariants.{Granted, Denied}
 use Rattle.build.specs.Draft.{Draft, Built, counts_of, counted, over, older, add}
-use Rattle.build.specs.Outcome.{Outcome, asked, asked_for, answered, outcome, added, settled, made}
+use Rattle.build.specs.Outcome.{Made, Asked, Outcome, asked, asked_for, answered, outcome, added, settled, made}
 use Rattle.build.proofs.Room.{Allowed, allowed}
 use Rattle.build.specs.Parts.{is_nil, stays, append, group}
 use Rattle.build.proofs.Choices.{append_left, append_right, append_both, group-stays, group-wraps}
@@ -33,21 +30,21 @@ module _ (c : Counts) (table text : List ℕ) (present amount : Bool) where
     abbrev older-asked : ℕ → Asked
     older-asked more = asked c (length table) (length text) present amount true (c.nodes + more) (c.bytes + 0)
 
-    pub older-settled : (more : ℕ) {r : Made} → r ≡ answered (older-asked more) (Node c n)
+    pub older-settled : (more : ℕ) {r : Made} → r ≡ answered (older-asked more) (Ok (c, n))
         → outcome r table text ≡ settled (older-asked more) (older (counted c table text) n.0) table text
     unfolding counted added
     older-settled more e = ap (λ (m : Made). outcome m table text) e ∙ go (older-asked more) refl
       where
-        go : (a : Asked) → older-asked more ≡ a → outcome (answered a (Node c n)) table text ≡ settled a (older (counted c table text) n.0) table text
-        go Granted g =
+        go : (a : Asked) → older-asked more ≡ a → outcome (answered a (Ok (c, n))) table text ≡ settled a (older (counted c table text) n.0) table text
+        go (Ok u) g =
             let h = allowed c (counts_of (c.nodes + more) (c.bytes + 0)) (length table) (length text) present amount true (omega arith) (omega arith) g in
             let t = over-front (c.nodes * 4) table (omega (arith, h.counted-nodes)) in
             let b = over-front c.bytes text h.counted-bytes in
-            λ i. outcome (Node c n) (t i) (b i)
-        go (Denied why) d = refl
+            λ i. outcome (Ok (c, n)) (t i) (b i)
+        go (Err why) d = refl
 
     -- with nothing to add
-    pub given_back : {r : Made} → r ≡ answered (older-asked 0) (Node c n) → outcome r table text ≡ made c table text present amount true (λ s. older s n.0)
+    pub given_back : {r : Made} → r ≡ answered (older-asked 0) (Ok (c, n)) → outcome r table text ≡ made c table text present amount true (λ s. older s n.0)
     unfolding counted
     given_back e =
         older-settled 0 e
@@ -71,11 +68,11 @@ module _ (c : Counts) (table text : List ℕ) (asks : Asks) (words : Words) wher
   abbrev new : Built
   new = add (counted c table text) words.kind words.a words.b words.c
 
-  pub node_denied : {r : Asked} → r ≡ node-asked → {why : Why} → r ≡ Denied why → outcome (Refused why) table text ≡ settled node-asked new table text
+  pub node_denied : {r : Asked} → r ≡ node-asked → {why : Why} → r ≡ Err why → outcome (Err why) table text ≡ settled node-asked new table text
   node_denied is d = rw (sym is ∙ d) refl
 
-  module _ (some : 0 < asks.nodes) {r : Asked} (is : r ≡ node-asked) (told : r ≡ Granted) where
-    g : node-asked ≡ Granted
+  module _ (some : 0 < asks.nodes) {r : Asked} (is : r ≡ node-asked) (told : r ≡ Ok tt) where
+    g : node-asked ≡ Ok tt
     g = sym is ∙ told
 
     abbrev then-counts : Counts
@@ -92,7 +89,7 @@ module _ (c : Counts) (table text : List ℕ) (asks : Asks) (words : Words) wher
         let i = h.inside (omega arith) in
         (omega arith, omega arith)
 
-    pub node_granted : {m : Made} {table' : List ℕ} → m ≡ Node (counts_of (c.nodes + 1) c.bytes) (record { 0 = c.nodes })
+    pub node_granted : {m : Made} {table' : List ℕ} → m ≡ Ok (counts_of (c.nodes + 1) c.bytes, record { 0 = c.nodes })
         → table' ≡ over (take (c.nodes * 4) table ++ (words.kind ∷ words.a ∷ words.b ∷ words.c ∷ [])) table
         → outcome m table' text ≡ settled node-asked new table text
     unfolding counted added

@@ -10,13 +10,10 @@ use borrow.Author.Tests.{lt-ltb}
 use Rattle.table.specs.declared.NodeNo.{NodeNo}
 use Rattle.build.specs.declared.Counts.{Counts}
 use Rattle.build.specs.declared.Why.{Why}
-use Rattle.build.specs.declared.Made.{Made}
-use Rattle.build.specs.declared.Made.TheVariants.{Node, Refused}
-use Rattle.build.specs.declared.Asked.{Asked}
-use Rattle.build.specs.declared.Asked.TheVariants.{Granted}
+use Rattle.std.specs.Prelude.{Ok, Err}
 use Rattle.build.specs.Draft.{Draft, Built, counts_of, counted}
 use Rattle.build.specs.Parts.{nil, text, space, hardline, flat_alt}
-use Rattle.build.specs.Outcome.{Outcome, asked, outcome, onward, settled}
+use Rattle.build.specs.Outcome.{Made, Asked, Outcome, asked, outcome, onward, settled}
 use Rattle.build.specs.Constructors.{has, plain_made, flat_alt_made}
 use Rattle.build.proofs.Grow.{Grown, same, then, add-grown, text-grown}
 use Rattle.build.proofs.Room.{stretch, allowed, granted}
@@ -57,18 +54,18 @@ module _ (c : Counts) (table text : List ℕ) {flat : Draft → Built} {k : ℕ}
       let e = one.counts s₁ in
       (omega (arith, ap (λ (x : Counts). x.nodes) e), omega (arith, ap (λ (x : Counts). x.bytes) e))
 
-  module _ (granted₃ : asked c (length table) (length text) true true true (c.nodes + 3) (c.bytes + k) ≡ Granted) where
+  module _ (granted₃ : asked c (length table) (length text) true true true (c.nodes + 3) (c.bytes + k) ≡ Ok tt) where
     last : Grown s₂ (whole s₀).draft
     last = add-grown s₂ 3 (hardline s₀).node (flat s₁).node 0
 
     begun : Begun c table text true true true whole
     begun = begin c table text true true true whole (c.nodes + 3) (c.bytes + k) right-counts (then (add-grown s₀ 5 0 0 0) (then (one.grows s₁) last)) granted₃
 
-    module _ {m : Made} {table₁ text₁ : List ℕ} (went : Went table text (hardline s₀) m table₁ text₁) {c₁ : Counts} {n₁ : NodeNo} (e : m ≡ Node c₁ n₁) where
+    module _ {m : Made} {table₁ text₁ : List ℕ} (went : Went table text (hardline s₀) m table₁ text₁) {c₁ : Counts} {n₁ : NodeNo} (e : m ≡ Ok (c₁, n₁)) where
       line_second : {m₂ : Made} {table₂ text₂ : List ℕ} → outcome m₂ table₂ text₂ ≡ plain_made c₁ table₁ text₁ flat → Went table text (flat s₁) m₂ table₂ text₂
       line_second o = step begun (taken went e).0 flat (add-grown s₀ 5 0 0 0) (one.grows s₁) last refl refl refl o
 
-      module _ {m₂ : Made} {table₂ text₂ : List ℕ} (went₂ : Went table text (flat s₁) m₂ table₂ text₂) {c₂ : Counts} {n₂ : NodeNo} (e₂ : m₂ ≡ Node c₂ n₂) where
+      module _ {m₂ : Made} {table₂ text₂ : List ℕ} (went₂ : Went table text (flat s₁) m₂ table₂ text₂) {c₂ : Counts} {n₂ : NodeNo} (e₂ : m₂ ≡ Ok (c₂, n₂)) where
         operands : has c₂ (hardline s₀).node && has c₂ (flat s₁).node ≡ true
         unfolding counted
         operands =
@@ -94,7 +91,7 @@ module _ (c : Counts) (table text : List ℕ) {flat : Draft → Built} {k : ℕ}
     abbrev line-asked : Asked
     line-asked = asked c (length table) (length text) true true true (c.nodes + nodes) (c.bytes + k)
 
-    fewer : line-asked ≡ Granted → asked c (length table) (length text) true true true (c.nodes + 3) (c.bytes + k) ≡ Granted
+    fewer : line-asked ≡ Ok tt → asked c (length table) (length text) true true true (c.nodes + 3) (c.bytes + k) ≡ Ok tt
     fewer g =
         let a = allowed c (counts_of (c.nodes + nodes) (c.bytes + k)) (length table) (length text) true true true (omega arith) (omega arith) g in
         granted {d = counts_of (c.nodes + 3) (c.bytes + k)}
@@ -108,10 +105,10 @@ module _ (c : Counts) (table text : List ℕ) {flat : Draft → Built} {k : ℕ}
         })
 
     module _ {m : Made} {table₁ text₁ : List ℕ} (o₁ : outcome m table₁ text₁ ≡ settled line-asked (hardline s₀) table text) where
-      pub line_refused : {why : Why} → m ≡ Refused why → outcome m table₁ text₁ ≡ settled line-asked (whole s₀) table text
+      pub line_refused : {why : Why} → m ≡ Err why → outcome m table₁ text₁ ≡ settled line-asked (whole s₀) table text
       line_refused e = first_denied line-asked (hardline s₀) table text o₁ (λ why q. rw q refl) e
 
-      pub line_made_lem : {c₁ : Counts} {n₁ : NodeNo} → m ≡ Node c₁ n₁ → (m₂ : Made) (table₂ text₂ : List ℕ) → outcome m₂ table₂ text₂ ≡ plain_made c₁ table₁ text₁ flat
+      pub line_made_lem : {c₁ : Counts} {n₁ : NodeNo} → m ≡ Ok (c₁, n₁) → (m₂ : Made) (table₂ text₂ : List ℕ) → outcome m₂ table₂ text₂ ≡ plain_made c₁ table₁ text₁ flat
           → {m₃ : Made} {table₃ text₃ : List ℕ} → outcome m₃ table₃ text₃ ≡ onward m₂ table₂ text₂ (λ c₂ n₂. flat_alt_made c₂ table₂ text₂ n₁.0 n₂)
           → outcome m₃ table₃ text₃ ≡ settled line-asked (whole s₀) table text
       line_made_lem {c₁} {n₁} e m₂ table₂ text₂ o₂ o₃ =

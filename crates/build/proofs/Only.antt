@@ -13,11 +13,10 @@ use borrow.Author.Tests.{le-ltb, eq-eqb}
 use Rattle.choice.specs.Pick.{pick}
 use Rattle.build.specs.declared.Counts.{Counts}
 use Rattle.build.specs.declared.Why.TheVariants.{Nodes}
-use Rattle.build.specs.declared.Made.TheVariants.{Refused}
-use Rattle.build.specs.declared.Asked.TheVariants.{Granted, Denied}
+use Rattle.std.specs.Prelude.{Ok, Err}
 use Rattle.build.specs.Draft.{Draft, Built, counted, older, add}
 use Rattle.build.specs.Parts.{is_nil, stays, nil, append, group, flat_alt, nest, union, fail, joined, concat}
-use Rattle.build.specs.Outcome.{fits, asked, outcome, added, made}
+use Rattle.build.specs.Outcome.{Asked, fits, asked, outcome, added, made}
 use Rattle.build.proofs.Grow.{Grown, same, then, more-nodes, add-grown}
 use Rattle.build.proofs.Stand.{made_granted, made_denied}
 use Rattle.build.proofs.Joins.{Below, below_more}
@@ -88,13 +87,13 @@ module _ (c : Counts) (table text : List ℕ) (present amount : Bool) (f : Draft
 
   -- by whether the nodes fit
   asked-room : (q : Bool) → fits c.nodes b.draft.counts.nodes 1024 (length table / 4) ≡ q
-      → asked c (length table) (length text) present amount true b.draft.counts.nodes b.draft.counts.bytes ≡ pick q Granted (Denied Nodes)
+      → asked c (length table) (length text) present amount true b.draft.counts.nodes b.draft.counts.bytes ≡ pick q (Ok tt) (Err Nodes)
   unfolding asked
   asked-room q e =
       rw (le-ltb (length table / 4) c.nodes nodes, le-ltb (length text) c.bytes bytes, p, a, eq-eqb c.bytes b.draft.counts.bytes (sym quiet))
       (rw e (last q))
     where
-      last : (r : Bool) → pick (not r) (Denied Nodes) Granted ≡ pick r Granted (Denied Nodes)
+      last : (r : Bool) → ◌≡◌ {A = Asked} (pick (not r) (Err Nodes) (Ok tt)) (pick r (Ok tt) (Err Nodes))
       last true = refl
       last false = refl
 
@@ -102,5 +101,5 @@ module _ (c : Counts) (table text : List ℕ) (present amount : Bool) (f : Draft
   made-whole e = made_granted c table text present amount true f b refl (asked-room true e)
 
   pub made-short : fits c.nodes b.draft.counts.nodes 1024 (length table / 4) ≡ false
-      → outcome (Refused Nodes) table text ≡ made c table text present amount true f
+      → outcome (Err Nodes) table text ≡ made c table text present amount true f
   made-short e = made_denied c table text present amount true f _ _ Nodes refl refl (asked-room false e)

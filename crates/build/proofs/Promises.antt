@@ -17,11 +17,9 @@ use Rattle.table.specs.declared.NodeNo.{NodeNo}
 use Rattle.choice.proofs.Tests.{and-true}
 use Rattle.table.proofs.Accept.{clean_of}
 use Rattle.build.specs.declared.Counts.{Counts}
-use Rattle.build.specs.declared.Made.TheVariants.{Node}
-use Rattle.build.specs.declared.Asked.{Asked}
-use Rattle.build.specs.declared.Asked.TheVariants.{Granted, Denied}
+use Rattle.std.specs.Prelude.{Ok, Err}
 use Rattle.build.specs.Draft.{Draft, Built, counted}
-use Rattle.build.specs.Outcome.{asked, settled, made}
+use Rattle.build.specs.Outcome.{Asked, asked, settled, made}
 use Rattle.build.specs.Constructors.{has, has_all, nest_right, nil_made, append_made, group_made, flat_alt_made, nest_made, hardline_made, text_made, annotate_made, union_made}
 use Rattle.build.specs.Constructors.{align_made, fail_made, space_made, line_made, line₀_made, softline_made, softline₀_made, hang_made, indent_made, enclose_made, concat_made, intersperse_made}
 use Rattle.build.specs.Documents.{append_doc, group_doc, nest_doc, text_doc, space_doc, line_doc, line₀_doc, softline_doc, softline₀_doc, hang_doc, indent_doc, enclose_doc, concat_doc, intersperse_doc}
@@ -35,9 +33,9 @@ use Rattle.build.proofs.Means.{Makes, still, nil-makes, hardline-makes, fail-mak
 use Rattle.build.proofs.Compose.{text-makes, space-makes, line-makes, line₀-makes, softline-makes, softline₀-makes, hang-makes, indent-makes, enclose-makes, concat-makes, intersperse-makes}
 
 -- a node is given only where all was granted
-was_granted : (q : Asked) (b : Built) (table text : List ℕ) (c : Counts) (n : NodeNo) → (settled q b table text).made ≡ Node c n → q ≡ Granted
-was_granted Granted b table text c n e = refl
-was_granted (Denied why) b table text c n e = let z : ◌≡◌ {A = ℕ} 0 1 = cc in absurd (omega arith)
+was_granted : (q : Asked) (b : Built) (table text : List ℕ) (c : Counts) (n : NodeNo) → (settled q b table text).made ≡ Ok (c, n) → q ≡ Ok tt
+was_granted (Ok u) b table text c n e = refl
+was_granted (Err why) b table text c n e = let z : ◌≡◌ {A = ℕ} 0 1 = cc in absurd (omega arith)
 
 module _ (c : Counts) (table text : List ℕ) where
   abbrev s₀ : Draft

@@ -13,9 +13,8 @@ use borrow.Author.Tests.{ltb-false, leb-true, eqb-true, not-false, le-ltb, le-le
 use Rattle.choice.specs.Pick.{pick}
 use Rattle.build.specs.declared.Counts.{Counts}
 use Rattle.build.specs.declared.Why.{Why}
-use Rattle.build.specs.declared.Asked.{Asked}
-use Rattle.build.specs.declared.Asked.TheVariants.{Granted, Denied}
-use Rattle.build.specs.Outcome.{fits, asked}
+use Rattle.std.specs.Prelude.{Ok, Err}
+use Rattle.build.specs.Outcome.{Asked, fits, asked}
 
 -- from what stands to what will stand, below the limit and in what is lent
 pub record Fits (before after limit lent : ℕ) : Type 0 where
@@ -68,7 +67,7 @@ pub record Allowed (c d : Counts) (words bytes : ℕ) (present amount text : Boo
   pub texts : text ≡ true
   pub room : Room words bytes c d
 
-goes_on : (q : Bool) (w : Why) (x : Asked) → pick q (Denied w) x ≡ Granted → (q ≡ false) × (x ≡ Granted)
+goes_on : (q : Bool) (w : Why) (x : Asked) → pick q (Err w) x ≡ Ok tt → (q ≡ false) × (x ≡ Ok tt)
 goes_on true w x e = let z : ◌≡◌ {A = ℕ} 0 1 = cc in absurd (omega arith)
 goes_on false w x e = (refl, e)
 
@@ -86,7 +85,7 @@ pub record Passed (c : Counts) (words bytes : ℕ) (present amount text : Bool) 
   pub bytes_fit : fits c.bytes used 65536 bytes ≡ true
   pub nodes-fit : fits c.nodes nodes 1024 (words / 4) ≡ true
 
-pub passed : (c : Counts) (words bytes : ℕ) (present amount text : Bool) (nodes used : ℕ) → asked c words bytes present amount text nodes used ≡ Granted
+pub passed : (c : Counts) (words bytes : ℕ) (present amount text : Bool) (nodes used : ℕ) → asked c words bytes present amount text nodes used ≡ Ok tt
     → Passed c words bytes present amount text nodes used
 unfolding asked
 passed c words bytes present amount text nodes used e =
@@ -112,13 +111,13 @@ pub room_of : {c : Counts} {words bytes : ℕ} {present amount text : Bool} (d :
 room_of d gn gb p = record { nodes = fits_of _ _ _ _ gn p.nodes-fit; used = fits_of _ _ _ _ gb p.bytes_fit }
 
 pub allowed : (c d : Counts) (words bytes : ℕ) (present amount text : Bool) → c.nodes ≤ d.nodes → c.bytes ≤ d.bytes
-    → asked c words bytes present amount text d.nodes d.bytes ≡ Granted → Allowed c d words bytes present amount text
+    → asked c words bytes present amount text d.nodes d.bytes ≡ Ok tt → Allowed c d words bytes present amount text
 allowed c d words bytes present amount text gn gb e =
     let p = passed c words bytes present amount text d.nodes d.bytes e in
     record { counted-nodes = p.counted-nodes; counted-bytes = p.counted-bytes; operands = p.operands; amounts = p.amounts; texts = p.texts; room = room_of d gn gb p }
 
 pub granted : {c d : Counts} {words bytes : ℕ} {present amount text : Bool} → Allowed c d words bytes present amount text
-    → asked c words bytes present amount text d.nodes d.bytes ≡ Granted
+    → asked c words bytes present amount text d.nodes d.bytes ≡ Ok tt
 unfolding asked
 granted {c} {d} {words} {bytes} {present} {amount} {text} h =
     rw (le-ltb (words / 4) c.nodes h.counted-nodes, le-ltb bytes c.bytes h.counted-bytes, h.operands, h.amounts, h.texts)

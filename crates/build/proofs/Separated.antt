@@ -15,13 +15,11 @@ use Rattle.choice.specs.Pick.{pick}
 use Rattle.table.specs.Node.{word}
 use Rattle.choice.proofs.Tests.{and-true}
 use Rattle.build.specs.declared.Counts.{Counts}
-use Rattle.build.specs.declared.Made.{Made}
-use Rattle.build.specs.declared.Made.TheVariants.{Node}
-use Rattle.build.specs.declared.Asked.{Asked}
+use Rattle.std.specs.Prelude.{Ok}
 use Rattle.build.specs.Draft.{Draft, counted}
 use Rattle.build.specs.Parts.{nil, joined, separated, intersperse}
 use Rattle.build.specs.Solid.{solid}
-use Rattle.build.specs.Outcome.{asked, answered, outcome, onward, made}
+use Rattle.build.specs.Outcome.{Made, Asked, asked, answered, outcome, onward, made}
 use Rattle.build.specs.Constructors.{has, has_all, append_made, intersperse_made}
 use Rattle.build.proofs.Joins.{Below, below_of, join_all, join-on}
 use Rattle.build.proofs.Concats.{join-made, head-is}
@@ -101,11 +99,11 @@ module _ (n : ℕ) (ns : List ℕ) (some : 0 < length ns) where
         (b.0, below-separated n (drop 1 ns) (ltb-true n c.nodes p.0) b.1)
 
     pub intersperse-made : {m : Made}
-        → m ≡ answered (intersperse-asked (solid (take (c.nodes * 4) table) ns + (length ns - 1) * solid (take (c.nodes * 4) table) (n ∷ []))) (Node c (record { 0 = get_or ns 0 0 }))
+        → m ≡ answered (intersperse-asked (solid (take (c.nodes * 4) table) ns + (length ns - 1) * solid (take (c.nodes * 4) table) (n ∷ []))) (Ok (c, record { 0 = get_or ns 0 0 }))
         → join_all m table text (separated n (drop 1 ns)) ≡ intersperse_made c table text ns n
     unfolding counted
     intersperse-made e =
-        let all = ap (λ (k : ℕ). answered (intersperse-asked k) (Node c (record { 0 = get_or ns 0 0 }))) (sym (solid-all (take (c.nodes * 4) table))) in
+        let all = ap (λ (k : ℕ). answered (intersperse-asked k) (Ok (c, record { 0 = get_or ns 0 0 }))) (sym (solid-all (take (c.nodes * 4) table))) in
         join-made c table text (has c n && has_all c ns) (λ s. intersperse s ns n) (get_or ns 0 0) (separated n (drop 1 ns)) (intersperse-is (counted c table text)) operands
         (e ∙ all)
 

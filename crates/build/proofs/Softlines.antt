@@ -10,12 +10,10 @@ use Rattle.table.specs.Node.{word}
 use Rattle.table.specs.declared.NodeNo.{NodeNo}
 use Rattle.build.specs.declared.Counts.{Counts}
 use Rattle.build.specs.declared.Why.{Why}
-use Rattle.build.specs.declared.Made.{Made}
-use Rattle.build.specs.declared.Made.TheVariants.{Node, Refused}
-use Rattle.build.specs.declared.Asked.TheVariants.{Granted, Denied}
+use Rattle.std.specs.Prelude.{Ok, Err}
 use Rattle.build.specs.Draft.{Draft, Built, counts_of, counted, add}
 use Rattle.build.specs.Parts.{hardline, stays, group}
-use Rattle.build.specs.Outcome.{asked, outcome, onward, settled}
+use Rattle.build.specs.Outcome.{Made, asked, outcome, onward, settled}
 use Rattle.build.specs.Constructors.{has, plain_made, group_made}
 use Rattle.build.proofs.Grow.{Whole, Grown, same, then, whole-grown, add-grown, group-grown}
 use Rattle.build.proofs.Words.{new_word}
@@ -63,18 +61,18 @@ module _ (c : Counts) (table text : List ℕ) {flat : Draft → Built} {k : ℕ}
       let l = line-counts in
       rw e (omega (arith, ap (λ (x : Counts). x.nodes) l), ap (λ (x : Counts). x.bytes) l)
 
-  soft-refused : (why : Why) → asked c (length table) (length text) true true true (c.nodes + 4) (c.bytes + k) ≡ Denied why
-      → outcome (Refused why) table text ≡ plain_made c table text soft
+  soft-refused : (why : Why) → asked c (length table) (length text) true true true (c.nodes + 4) (c.bytes + k) ≡ Err why
+      → outcome (Err why) table text ≡ plain_made c table text soft
   soft-refused why d = refuse c table text true true true soft _ _ right-counts why d
 
-  module _ (granted : asked c (length table) (length text) true true true (c.nodes + 4) (c.bytes + k) ≡ Granted) where
+  module _ (granted : asked c (length table) (length text) true true true (c.nodes + 4) (c.bytes + k) ≡ Ok tt) where
     last : Grown (line_of s₀).draft (soft s₀).draft
     last = group-grown (line_of s₀).draft (line_of s₀).node
 
     begun : Begun c table text true true true soft
     begun = begin c table text true true true soft (c.nodes + 4) (c.bytes + k) right-counts (then line-grown last) granted
 
-    soft_last : {m : Made} {table₁ text₁ : List ℕ} → Went table text (line_of s₀) m table₁ text₁ → {c₁ : Counts} {n₁ : NodeNo} → m ≡ Node c₁ n₁
+    soft_last : {m : Made} {table₁ text₁ : List ℕ} → Went table text (line_of s₀) m table₁ text₁ → {c₁ : Counts} {n₁ : NodeNo} → m ≡ Ok (c₁, n₁)
         → {m₂ : Made} {table₂ text₂ : List ℕ} → outcome m₂ table₂ text₂ ≡ group_made c₁ table₁ text₁ n₁.0 → outcome m₂ table₂ text₂ ≡ plain_made c table text soft
     unfolding counted
     soft_last went {c₁} {n₁} e o =

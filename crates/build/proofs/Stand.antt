@@ -16,12 +16,9 @@ use borrow.Author.Tests.{ltb-false}
 use Rattle.table.specs.declared.NodeNo.{NodeNo}
 use Rattle.build.specs.declared.Counts.{Counts}
 use Rattle.build.specs.declared.Why.{Why}
-use Rattle.build.specs.declared.Made.{Made}
-use Rattle.build.specs.declared.Made.TheVariants.{Node, Refused}
-use Rattle.build.specs.declared.Asked.{Asked}
-use Rattle.build.specs.declared.Asked.TheVariants.{Granted, Denied}
+use Rattle.std.specs.Prelude.{Ok, Err}
 use Rattle.build.specs.Draft.{Draft, Built, counted, over}
-use Rattle.build.specs.Outcome.{past, asked, Outcome, outcome, onward, added, settled, made}
+use Rattle.build.specs.Outcome.{Made, Asked, past, asked, Outcome, outcome, onward, added, settled, made}
 use Rattle.build.proofs.Grow.{Whole, Grown, same, whole-grown, more-nodes, more_bytes}
 use Rattle.build.proofs.Room.{neither, stretch, fits-inside, Room, Allowed, allowed, granted}
 
@@ -80,12 +77,12 @@ start c table text n b =
 -- an outcome's number is its answer's
 settled-told : (a : Asked) (b : Built) (table text : List ℕ) → let o = settled a b table text in outcome o.made o.table o.text ≡ o
 unfolding added
-settled-told Granted b table text = refl
-settled-told (Denied why) b table text = refl
+settled-told (Ok u) b table text = refl
+settled-told (Err why) b table text = refl
 
 -- a part gave what it was asked for
 pub record Went (table₀ text₀ : List ℕ) (b : Built) (m : Made) (table text : List ℕ) : Type 0 where
-  pub answer : m ≡ Node b.draft.counts (record { 0 = b.node })
+  pub answer : m ≡ Ok (b.draft.counts, record { 0 = b.node })
   pub stands : Stands table₀ text₀ b.draft b.draft.counts table text
 
 -- the counts that parts come to, where nothing before them in the order of refusals is wrong
@@ -98,13 +95,13 @@ module _ (c : Counts) (table text : List ℕ) (present amount right : Bool) (f :
   abbrev asked_of : ℕ → ℕ → Asked
   asked_of nodes used = asked c (length table) (length text) present amount right nodes used
 
-  pub made_granted : (b : Built) → f (counted c table text) ≡ b → asked_of b.draft.counts.nodes b.draft.counts.bytes ≡ Granted
+  pub made_granted : (b : Built) → f (counted c table text) ≡ b → asked_of b.draft.counts.nodes b.draft.counts.bytes ≡ Ok tt
       → made c table text present amount right f ≡ added b table text
   unfolding made
   made_granted b e g = rw (e, g) refl
 
   pub made_denied : (nodes used : ℕ) (why : Why) → (f (counted c table text)).draft.counts.nodes ≡ nodes → (f (counted c table text)).draft.counts.bytes ≡ used
-      → asked_of nodes used ≡ Denied why → outcome (Refused why) table text ≡ made c table text present amount right f
+      → asked_of nodes used ≡ Err why → outcome (Err why) table text ≡ made c table text present amount right f
   unfolding made
   made_denied nodes used why n u d = rw (n, u, d) refl
 
@@ -181,22 +178,23 @@ pub gone : {table₀ text₀ : List ℕ} {b : Built} {m : Made} {table text : Li
 gone {table = table} {text = text} w next = ap (λ (k : Made). onward k table text next) w.answer
 
 -- its answer taken apart
-pub taken : {table₀ text₀ : List ℕ} {b : Built} {m : Made} {table text : List ℕ} → Went table₀ text₀ b m table text → {c : Counts} {n : NodeNo} → m ≡ Node c n
+pub taken : {table₀ text₀ : List ℕ} {b : Built} {m : Made} {table text : List ℕ} → Went table₀ text₀ b m table text → {c : Counts} {n : NodeNo} → m ≡ Ok (c, n)
     → Stands table₀ text₀ b.draft c table text × (n.0 ≡ b.node)
 taken {b = b} w {c} {n} e =
-    let q : Node c n ≡ Node b.draft.counts (record { 0 = b.node }) = sym e ∙ w.answer in
-    let p : c ≡ b.draft.counts = cc in
-    let r : n ≡ record { 0 = b.node } = cc in
+    let q : ◌≡◌ {A = Made} (Ok (c, n)) (Ok (b.draft.counts, record { 0 = b.node })) = sym e ∙ w.answer in
+    let pair : ◌≡◌ {A = Counts × NodeNo} (c, n) (b.draft.counts, record { 0 = b.node }) = cc in
+    let p = ap (λ (x : Counts × NodeNo). x.0) pair in
+    let r = ap (λ (x : Counts × NodeNo). x.1) pair in
     let s = w.stands in (
       record { counts = p; words = s.words; bytes = s.bytes; whole = s.whole; nodes-inside = s.nodes-inside; bytes_inside = s.bytes_inside },
       ap (λ (x : NodeNo). x.0) r,
     )
 
 -- an answer is no refusal
-pub apart : {c : Counts} {n : NodeNo} {why : Why} → Node c n ≡ Refused why → ⊥
+pub apart : {c : Counts} {n : NodeNo} {why : Why} → ◌≡◌ {A = Made} (Ok (c, n)) (Err why) → ⊥
 apart e = let z : ◌≡◌ {A = ℕ} 0 1 = cc in omega arith
 
-pub never : {table₀ text₀ : List ℕ} {b : Built} {m : Made} {table text : List ℕ} → Went table₀ text₀ b m table text → {why : Why} → m ≡ Refused why → ⊥
+pub never : {table₀ text₀ : List ℕ} {b : Built} {m : Made} {table text : List ℕ} → Went table₀ text₀ b m table text → {why : Why} → m ≡ Err why → ⊥
 never w e = apart (sym w.answer ∙ e)
 
 -- after the last part
@@ -217,15 +215,15 @@ module _ (c : Counts) (table text : List ℕ) (present amount right : Bool) (f :
   asked_is : asked c (length table) (length text) present amount right (f (counted c table text)).draft.counts.nodes (f (counted c table text)).draft.counts.bytes ≡ asked c (length table) (length text) present amount right nodes used
   asked_is = asked-same c table text present amount right f nodes used right-counts
 
-  pub refuse : (why : Why) → asked c (length table) (length text) present amount right nodes used ≡ Denied why
-      → outcome (Refused why) table text ≡ made c table text present amount right f
+  pub refuse : (why : Why) → asked c (length table) (length text) present amount right nodes used ≡ Err why
+      → outcome (Err why) table text ≡ made c table text present amount right f
   refuse why d = made_denied c table text present amount right f _ _ why refl refl (asked_is ∙ d)
 
   pub settle : settled (asked c (length table) (length text) present amount right nodes used) (f (counted c table text)) table text ≡ made c table text present amount right f
   unfolding made
   settle = ap (λ (a : Asked). settled a (f (counted c table text)) table text) (sym asked_is)
 
-  pub begin : Grown (counted c table text) (f (counted c table text)).draft → asked c (length table) (length text) present amount right nodes used ≡ Granted
+  pub begin : Grown (counted c table text) (f (counted c table text)).draft → asked c (length table) (length text) present amount right nodes used ≡ Ok tt
       → Begun c table text present amount right f
   begin g e =
       let b = f (counted c table text) in
@@ -272,23 +270,23 @@ module _ {c₀ : Counts} {table₀ text₀ : List ℕ} {present₀ amount₀ rig
 
 module _ (A : Asked) (b : Built) (table text : List ℕ) {m : Made} {table' text' : List ℕ} (o : outcome m table' text' ≡ settled A b table text) where
   -- its refusal is the whole's
-  pub first_denied : {W : Outcome} → ((why : Why) → A ≡ Denied why → outcome (Refused why) table text ≡ W) → {why : Why} → m ≡ Refused why → outcome m table' text' ≡ W
+  pub first_denied : {W : Outcome} → ((why : Why) → A ≡ Err why → outcome (Err why) table text ≡ W) → {why : Why} → m ≡ Err why → outcome m table' text' ≡ W
   first_denied {W} refused {why} e = go A refl
     where
       go : (a : Asked) → A ≡ a → outcome m table' text' ≡ W
-      go Granted q = unfold added in absurd (apart (sym (ap (λ (x : Outcome). x.made) (o ∙ ap (λ (x : Asked). settled x b table text) q)) ∙ e))
-      go (Denied also) q = o ∙ ap (λ (x : Asked). settled x b table text) q ∙ refused also q
+      go (Ok u) q = unfold added in absurd (apart (sym (ap (λ (x : Outcome). x.made) (o ∙ ap (λ (x : Asked). settled x b table text) q)) ∙ e))
+      go (Err also) q = o ∙ ap (λ (x : Asked). settled x b table text) q ∙ refused also q
 
-  pub first_granted : {c : Counts} {n : NodeNo} → m ≡ Node c n → (A ≡ Granted) × (outcome m table' text' ≡ added b table text)
+  pub first_granted : {c : Counts} {n : NodeNo} → m ≡ Ok (c, n) → (A ≡ Ok tt) × (outcome m table' text' ≡ added b table text)
   first_granted {c} {n} e = go A refl
     where
-      go : (a : Asked) → A ≡ a → (A ≡ Granted) × (outcome m table' text' ≡ added b table text)
-      go Granted q = (q, o ∙ ap (λ (x : Asked). settled x b table text) q)
-      go (Denied why) q = absurd (apart (sym e ∙ ap (λ (x : Outcome). x.made) (o ∙ ap (λ (x : Asked). settled x b table text) q)))
+      go : (a : Asked) → A ≡ a → (A ≡ Ok tt) × (outcome m table' text' ≡ added b table text)
+      go (Ok u) q = (q, o ∙ ap (λ (x : Asked). settled x b table text) q)
+      go (Err why) q = absurd (apart (sym e ∙ ap (λ (x : Outcome). x.made) (o ∙ ap (λ (x : Asked). settled x b table text) q)))
 
 -- what goes on from it comes to the whole, or its refusal does
-pub first : (A : Asked) (b : Built) (table text : List ℕ) {W : Outcome} → ((why : Why) → A ≡ Denied why → outcome (Refused why) table text ≡ W)
+pub first : (A : Asked) (b : Built) (table text : List ℕ) {W : Outcome} → ((why : Why) → A ≡ Err why → outcome (Err why) table text ≡ W)
     → (m : Made) (table' text' : List ℕ) (next : Counts → ℕ → Outcome) {r : Outcome} → outcome m table' text' ≡ settled A b table text → r ≡ onward m table' text' next
-    → (A ≡ Granted → (c : Counts) (n : NodeNo) → m ≡ Node c n → outcome m table' text' ≡ added b table text → r ≡ next c n.0 → r ≡ W) → r ≡ W
-first A b table text refused (Node c n) table' text' next o r k = let g = first_granted A b table text o refl in k g.0 c n refl g.1 r
-first A b table text refused (Refused why) table' text' next o r k = r ∙ first_denied A b table text o refused refl
+    → (A ≡ Ok tt → (c : Counts) (n : NodeNo) → m ≡ Ok (c, n) → outcome m table' text' ≡ added b table text → r ≡ next c n.0 → r ≡ W) → r ≡ W
+first A b table text refused (Ok (c, n)) table' text' next o r k = let g = first_granted A b table text o refl in k g.0 c n refl g.1 r
+first A b table text refused (Err why) table' text' next o r k = r ∙ first_denied A b table text o refused refl

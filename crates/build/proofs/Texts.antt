@@ -18,13 +18,10 @@ use Rattle.table.specs.Fault.{columns_right}
 use Rattle.buffer.specs.Run.{put}
 use Rattle.build.specs.declared.Counts.{Counts}
 use Rattle.build.specs.declared.Why.{Why}
-use Rattle.build.specs.declared.Made.{Made}
-use Rattle.build.specs.declared.Made.TheVariants.{Node, Refused}
-use Rattle.build.specs.declared.Asked.{Asked}
-use Rattle.build.specs.declared.Asked.TheVariants.{Granted, Denied}
+use Rattle.std.specs.Prelude.{Ok, Err}
 use Rattle.build.specs.Draft.{Draft, Built, counts_of, counted, over, add, write}
 use Rattle.build.specs.Parts.{nil, text}
-use Rattle.build.specs.Outcome.{Outcome, asked, outcome, added, made}
+use Rattle.build.specs.Outcome.{Made, Asked, Outcome, asked, outcome, added, made}
 use Rattle.build.specs.Constructors.{text_made}
 use Rattle.buffer.proofs.Put.{take-replicate}
 use Rattle.build.proofs.Choices.{text-none, text-some}
@@ -69,13 +66,13 @@ module _ (c : Counts) (table letters bytes : List ℕ) (columns : ℕ) {right : 
   text-asked = asked c (length table) (length letters) true true right (c.nodes + 1) (c.bytes + length bytes)
 
   module _ {r : Asked} (is : r ≡ text-asked) where
-    pub text_denied : {why : Why} → r ≡ Denied why → outcome (Refused why) table letters ≡ text_made c table letters bytes columns
+    pub text_denied : {why : Why} → r ≡ Err why → outcome (Err why) table letters ≡ text_made c table letters bytes columns
     text_denied d =
         let nodes = ap (λ (x : Counts). x.nodes) counts_are in
         let used = ap (λ (x : Counts). x.bytes) counts_are in
         by_test (made_denied c table letters true true right (λ s. text s bytes columns) _ _ _ nodes used (sym is ∙ d))
 
-    module _ (told : r ≡ Granted) where
+    module _ (told : r ≡ Ok tt) where
       facts : Allowed c after (length table) (length letters) true true right
       facts = allowed c after (length table) (length letters) true true right (omega arith) (omega arith) (sym is ∙ told)
 
@@ -98,7 +95,7 @@ module _ (c : Counts) (table letters bytes : List ℕ) (columns : ℕ) {right : 
           by_test (o ∙ sym (made_granted c table letters true true right (λ s. text s bytes columns) b e (rw n (sym is ∙ told))))
 
       pub text-empty : length bytes ≡ 0
-          → {m : Made} {table' : List ℕ} → m ≡ Node (counts_of (c.nodes + 1) c.bytes) (record { 0 = c.nodes })
+          → {m : Made} {table' : List ℕ} → m ≡ Ok (counts_of (c.nodes + 1) c.bytes, record { 0 = c.nodes })
           → table' ≡ over (take (c.nodes * 4) table ++ (0 ∷ 0 ∷ 0 ∷ 0 ∷ [])) table
           → outcome m table' letters ≡ text_made c table letters bytes columns
       unfolding counted added
@@ -108,7 +105,7 @@ module _ (c : Counts) (table letters bytes : List ℕ) (columns : ℕ) {right : 
 
       -- the bytes are put behind those that stand
       pub text-full : (length bytes ≡ 0 → ⊥)
-          → {m : Made} {table' letters' : List ℕ} → m ≡ Node after (record { 0 = c.nodes })
+          → {m : Made} {table' letters' : List ℕ} → m ≡ Ok (after, record { 0 = c.nodes })
           → table' ≡ over (take (c.nodes * 4) table ++ (6 ∷ c.bytes ∷ length bytes ∷ columns ∷ [])) table
           → letters' ≡ put letters c.bytes (take (length bytes) bytes)
           → outcome m table' letters' ≡ text_made c table letters bytes columns

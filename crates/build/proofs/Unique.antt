@@ -3,8 +3,7 @@
 use Prim.Native.Nat.{ℕ}
 use mathlib.Core.Path.{◌≡◌, sym, ap, ◌∙◌}
 use mathlib.Core.List.{List}
-use Rattle.build.specs.declared.Made.{Made}
-use Rattle.build.specs.Outcome.{Outcome, outcome}
+use Rattle.build.specs.Outcome.{Made, Outcome, outcome}
 
 -- o is what the promise says of the counts, table, text and operands that were lent
 pub unique : (o : Outcome) (r r' : Made) (table table' text text' : List ℕ) → outcome r table text ≡ o → outcome r' table' text' ≡ o

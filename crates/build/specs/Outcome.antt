@@ -1,19 +1,25 @@
 -- What a constructor leaves: document 01's number for its answer, the answer, and the whole of table and text.
+--     Made, Asked           what a constructor answers, and what it is told before
 --     number, answer_of     document 01's number for each refusal, and for an answer
 --     asked, asked_for      the order of refusals
 --     outcome, refused, added, settled     a refusal, or what was built
 --     made, first_made      all parts or nothing; a first part that asks for the whole
-use Rattle.std.specs.Prelude.{ℕ, ◌+◌, ◌/◌, Bool, true, not, ◌&&◌, ◌||◌, List, length, eqb, ltb, leb}
+use Rattle.std.specs.Prelude.{Result, Ok, Err, ℕ, ◌+◌, ◌/◌, Bool, true, not, ◌&&◌, ◌||◌, List, length, eqb, ltb, leb}
 use Rattle.choice.specs.Pick.{pick}
+use Rattle.table.specs.declared.NodeNo.{NodeNo}
 use Rattle.build.specs.declared.Counts.{Counts}
 use Rattle.build.specs.declared.Why.{Why}
 use Rattle.build.specs.declared.Why.TheVariants.{Sizes, Operand, Amount, Text, Bytes, Nodes}
-use Rattle.build.specs.declared.Made.{Made}
-use Rattle.build.specs.declared.Made.TheVariants.{Node, Refused}
 use Rattle.build.specs.declared.Asks.{Asks}
-use Rattle.build.specs.declared.Asked.{Asked}
-use Rattle.build.specs.declared.Asked.TheVariants.{Granted, Denied}
 use Rattle.build.specs.Draft.{Draft, Built, counted, over}
+
+-- what a constructor answers: the counts with the new node, or why it refuses
+abbrev pub Made : Type 0
+Made = Result (Counts × NodeNo) Why
+
+-- whether what is asked for is granted
+abbrev pub Asked : Type 0
+Asked = Result (Unit {0}) Why
 
 -- document 01's number for each refusal
 abbrev pub number : Why → ℕ
@@ -26,8 +32,8 @@ number Nodes = 10
 
 -- document 01's number for an answer: 0 with a node, else the refusal's
 abbrev pub answer_of : Made → ℕ
-answer_of (Node c n) = 0
-answer_of (Refused why) = number why
+answer_of (Ok (c, n)) = 0
+answer_of (Err why) = number why
 
 -- counts past the lent table or text; a table's last words that make no node don't count
 abbrev pub past : Counts → ℕ → ℕ → Bool
@@ -40,13 +46,13 @@ fits before after limit lent = eqb before after || (leb after limit && leb after
 -- 1, 11, then 3 or 5, then 12, then 10: operands present, amount and text right, and counts afterwards
 unfoldable pub asked : Counts → ℕ → ℕ → Bool → Bool → Bool → ℕ → ℕ → Asked
 asked c words bytes present amount text nodes used =
-    pick (past c words bytes) (Denied Sizes)
-    (pick (not present) (Denied Operand)
-    (pick (not amount) (Denied Amount)
-    (pick (not text) (Denied Text)
-    (pick (not (fits c.bytes used 65536 bytes)) (Denied Bytes)
-    (pick (not (fits c.nodes nodes 1024 (words / 4))) (Denied Nodes)
-    Granted)))))
+    pick (past c words bytes) (Err Sizes)
+    (pick (not present) (Err Operand)
+    (pick (not amount) (Err Amount)
+    (pick (not text) (Err Text)
+    (pick (not (fits c.bytes used 65536 bytes)) (Err Bytes)
+    (pick (not (fits c.nodes nodes 1024 (words / 4))) (Err Nodes)
+    (Ok tt))))))
 
 -- the same, by what is to be added
 abbrev pub asked_for : Counts → ℕ → ℕ → Asks → Asked
@@ -60,8 +66,8 @@ asks_for present amount nodes bytes =
 
 -- an answer that adds nothing, or the refusal
 abbrev pub answered : Asked → Made → Made
-answered Granted m = m
-answered (Denied why) m = Refused why
+answered (Ok u) m = m
+answered (Err why) m = Err why
 
 -- an answer with its number, and what table and text hold afterwards
 pub record Outcome : Type 0 where
@@ -75,26 +81,26 @@ outcome made table text = record { answer = answer_of made; made = made; table =
 
 -- a refusal has its number and leaves table and text unchanged
 abbrev pub refused : Why → List ℕ → List ℕ → Outcome
-refused why table text = record { answer = number why; made = Refused why; table = table; text = text }
+refused why table text = record { answer = number why; made = Err why; table = table; text = text }
 
 -- an answer taken apart: what goes on from it, or the refusal handed on
 abbrev pub onward : Made → List ℕ → List ℕ → (Counts → ℕ → Outcome) → Outcome
-onward (Node c n) table text next = next c n.0
-onward (Refused why) table text next = refused why table text
+onward (Ok (c, n)) table text next = next c n.0
+onward (Err why) table text next = refused why table text
 
 -- what was built has number 0 and stands over the front of table and text
 unfoldable pub added : Built → List ℕ → List ℕ → Outcome
 added b table text =
     record {
       answer = 0;
-      made = Node b.draft.counts (record { 0 = b.node });
+      made = Ok (b.draft.counts, record { 0 = b.node });
       table = over b.draft.table table;
       text = over b.draft.text text;
     }
 
 abbrev pub settled : Asked → Built → List ℕ → List ℕ → Outcome
-settled Granted b table text = added b table text
-settled (Denied why) b table text = refused why table text
+settled (Ok u) b table text = added b table text
+settled (Err why) b table text = refused why table text
 
 -- all parts, or nothing
 unfoldable pub made : Counts → List ℕ → List ℕ → Bool → Bool → Bool → (Draft → Built) → Outcome

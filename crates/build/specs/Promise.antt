@@ -6,7 +6,7 @@ use Rattle.table.specs.Unfold.{tree}
 use Rattle.table.specs.Document.{Doc, doc}
 use Rattle.table.specs.declared.NodeNo.{NodeNo}
 use Rattle.build.specs.declared.Counts.{Counts}
-use Rattle.build.specs.declared.Made.TheVariants.{Node}
+use Rattle.std.specs.Prelude.{Ok}
 use Rattle.build.specs.Outcome.{Outcome}
 
 module _ (c : Counts) (table text : List ℕ) where
@@ -28,4 +28,4 @@ pub record Builds (c : Counts) (table text : List ℕ) (o : Outcome) (d : Doc) (
 
 -- whenever it gives a node
 abbrev pub Promise : Counts → List ℕ → List ℕ → Outcome → Doc → Type 0
-Promise c table text o d = (c' : Counts) (n : NodeNo) → o.made ≡ Node c' n → ValidSoFar c table text → Builds c table text o d c' n
+Promise c table text o d = (c' : Counts) (n : NodeNo) → o.made ≡ Ok (c', n) → ValidSoFar c table text → Builds c table text o d c' n

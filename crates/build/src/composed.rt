@@ -2,11 +2,11 @@
 ghost use Rattle.std.specs.Prelude.{◌≡◌, true, ◌*◌, ◌≤◌, leb, length, take, replicate};
 ghost use Rattle.build.specs.Parts.{line, line₀};
 ghost use Rattle.build.specs.Solid.{indent_adds};
-ghost use Rattle.build.specs.Outcome.{asked_for, asks_for, outcome, onward, first_made};
-ghost use Rattle.build.specs.Constructors.{has, flat_alt_made, text_made, space_made, line_made, line₀_made};
+ghost use Rattle.build.specs.Outcome.{asked_for, asks_for, outcome, first_made};
+ghost use Rattle.build.specs.Constructors.{has, text_made, space_made, line_made, line₀_made};
 ghost use Rattle.build.specs.Constructors.{softline_made, softline₀_made, hang_made, indent_made};
 
-use crate::{Asked, Asks, Counts, Made};
+use crate::{Asks, Counts, Made, Why};
 use table::{Column, HARDLINE, Indent, NodeNo, Words};
 
 impl Counts {
@@ -36,12 +36,9 @@ impl Counts {
             b: 0,
             c: 0,
         };
-        let mut made = self.node(table, text, asks, words);
-        let Made::Node(c, broken) = made else {
-            return made;
-        };
-        made = c.space(table, text);
-        or_flat(made, table, text, broken)
+        let (c, broken) = self.node(table, text, asks, words)?;
+        let (c, flat) = c.space(table, text)?;
+        c.flat_alt(table, text, broken, flat)
     }
 
     // The same with a Nil for the blank.
@@ -63,12 +60,9 @@ impl Counts {
             b: 0,
             c: 0,
         };
-        let mut made = self.node(table, text, asks, words);
-        let Made::Node(c, broken) = made else {
-            return made;
-        };
-        made = c.nil(table, text);
-        or_flat(made, table, text, broken)
+        let (c, broken) = self.node(table, text, asks, words)?;
+        let (c, flat) = c.nil(table, text)?;
+        c.flat_alt(table, text, broken, flat)
     }
 
     // Three nodes and one byte.
@@ -90,10 +84,7 @@ impl Counts {
         ensures { outcome result table.new text.new
             ≡ softline_made self table.old text.old }
     {
-        let line = self.broken_or_blank(table, text, 4);
-        let Made::Node(c, n) = line else {
-            return line;
-        };
+        let (c, n) = self.broken_or_blank(table, text, 4)?;
         c.group(table, text, n)
     }
 
@@ -101,10 +92,7 @@ impl Counts {
         ensures { outcome result table.new text.now
             ≡ softline₀_made self table.old text.now }
     {
-        let line = self.broken_or_nil(table, text, 4);
-        let Made::Node(c, n) = line else {
-            return line;
-        };
+        let (c, n) = self.broken_or_nil(table, text, 4)?;
         c.group(table, text, n)
     }
 
@@ -113,10 +101,7 @@ impl Counts {
         ensures { outcome result table.new text.now
             ≡ hang_made self table.old text.now n.0 amount.0 way }
     {
-        let first = self.nest_before(table, text, n, amount, way, 1);
-        let Made::Node(c, nested) = first else {
-            return first;
-        };
+        let (c, nested) = self.nest_before(table, text, n, amount, way, 1)?;
         c.align(table, text, nested)
     }
 
@@ -134,7 +119,7 @@ impl Counts {
     }
 
     // What `indent` asks for.
-    fn ask_indent(self, table: &[u32], bytes: usize, n: NodeNo, by: Indent) -> Asked
+    fn ask_indent(self, table: &[u32], bytes: usize, n: NodeNo, by: Indent) -> Result<(), Why>
         ensures { result
             ≡ asked_for self (length table.now) bytes
             (asks_for (has self n.0) (leb by.0 1000) (indent_adds (take (self.nodes * 4) table.now) n.0 by.0) by.0) }
@@ -168,39 +153,9 @@ impl Counts {
         ensures { outcome result table.new text.new
             ≡ indent_made self table.old text.old n.0 by.0 }
     {
-        let asked = self.ask_indent(table, text.len(), n, by);
-        if let Asked::Denied(why) = asked {
-            return Made::Refused(why);
-        }
-        let mut made = self.blanks(table, text, by);
-        let Made::Node(c, blank) = made else {
-            return made;
-        };
-        made = c.append(table, text, blank, n);
-        hung(made, table, text, by)
+        self.ask_indent(table, text.len(), n, by)?;
+        let (c, blank) = self.blanks(table, text, by)?;
+        let (c, joined) = c.append(table, text, blank, n)?;
+        c.hang(table, text, joined, by, 0)
     }
-}
-
-// FlatAlt of a node and what was made; a refusal is handed on, here and below.
-fn or_flat(made: Made, table: &mut [u32], text: &[u8], broken: NodeNo) -> Made
-    ensures { outcome result table.new text.now
-        ≡ onward made table.old text.now
-        (λ c n. flat_alt_made c table.old text.now broken.0 n) }
-{
-    let Made::Node(c, flat) = made else {
-        return made;
-    };
-    c.flat_alt(table, text, broken, flat)
-}
-
-// What was made, hung.
-fn hung(made: Made, table: &mut [u32], text: &[u8], by: Indent) -> Made
-    ensures { outcome result table.new text.now
-        ≡ onward made table.old text.now
-        (λ c n. hang_made c table.old text.now n by.0 0) }
-{
-    let Made::Node(c, n) = made else {
-        return made;
-    };
-    c.hang(table, text, n, by, 0)
 }

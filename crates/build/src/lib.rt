@@ -4,13 +4,13 @@
 
 #![tactic(auto)]
 
-ghost use Rattle.std.specs.Prelude.{◌≡◌, true, ◌&&◌, ◌||◌, [], ◌∷◌, ◌++◌, ◌+◌, ◌-◌, ◌*◌, ◌≤◌, ◌<◌, length, take, eqb};
+ghost use Rattle.std.specs.Prelude.{Ok, ◌≡◌, true, ◌&&◌, ◌||◌, [], ◌∷◌, ◌++◌, ◌+◌, ◌-◌, ◌*◌, ◌≤◌, ◌<◌, length, take, eqb};
 ghost use Rattle.table.specs.Node.{word};
 ghost use Rattle.build.specs.Draft.{counts_of, counted, over, older, add};
 ghost use Rattle.build.specs.Parts.{stays, nest};
 ghost use Rattle.build.specs.Solid.{nest_adds};
-ghost use Rattle.build.specs.Outcome.{fits, asked_for, asks_for, answered, outcome, onward, made, first_made};
-ghost use Rattle.build.specs.Constructors.{has, nest_right, append_made};
+ghost use Rattle.build.specs.Outcome.{fits, asked_for, asks_for, answered, outcome, made, first_made};
+ghost use Rattle.build.specs.Constructors.{has, nest_right};
 
 use buffer::utf8::below_128;
 use table::{GROUP, Indent, NEST, NIL, NodeNo, TEXT, Words};
@@ -37,12 +37,8 @@ pub enum Why {
     Nodes,
 }
 
-// What a constructor answers: the counts with the new node, or a refusal.
-#[derive(Clone, Copy)]
-pub enum Made {
-    Node(Counts, NodeNo),
-    Refused(Why),
-}
+// What a constructor answers: the counts with the new node, or why it refuses.
+pub type Made = Result<(Counts, NodeNo), Why>;
 
 // What a constructor asks for before it adds anything: operands present, amount and text right, nodes and bytes to add.
 #[derive(Clone, Copy)]
@@ -52,12 +48,6 @@ pub struct Asks {
     pub text: bool,
     pub nodes: usize,
     pub bytes: usize,
-}
-
-#[derive(Clone, Copy)]
-pub enum Asked {
-    Granted,
-    Denied(Why),
 }
 
 // Whether `more` fits behind `before`, below the limit and in what is lent.
@@ -107,38 +97,31 @@ fn put(table: &mut [u32], n: usize, words: Words)
 
 impl Counts {
     // The first refusal, in document 01's order, of what is asked for over a table and a text of these lengths.
-    pub fn ask(self, words: usize, bytes: usize, asks: Asks) -> Asked
+    pub fn ask(self, words: usize, bytes: usize, asks: Asks) -> Result<(), Why>
         ensures { result ≡ asked_for self words bytes asks }
     {
-        // what the test below it would refuse for
-        let mut why = Why::Sizes;
         if words / 4 < self.nodes as usize {
-            return Asked::Denied(why);
+            return Err(Why::Sizes);
         }
         if bytes < self.bytes as usize {
-            return Asked::Denied(why);
+            return Err(Why::Sizes);
         }
-        why = Why::Operand;
         if !asks.present {
-            return Asked::Denied(why);
+            return Err(Why::Operand);
         }
-        why = Why::Amount;
         if !asks.amount {
-            return Asked::Denied(why);
+            return Err(Why::Amount);
         }
-        why = Why::Text;
         if !asks.text {
-            return Asked::Denied(why);
+            return Err(Why::Text);
         }
-        why = Why::Bytes;
         if !fits(self.bytes, asks.bytes, 65536, bytes) {
-            return Asked::Denied(why);
+            return Err(Why::Bytes);
         }
-        why = Why::Nodes;
         if !fits(self.nodes, asks.nodes, 1024, words / 4) {
-            return Asked::Denied(why);
+            return Err(Why::Nodes);
         }
-        Asked::Granted
+        Ok(())
     }
 
     // Word i of node n; 0 where n is not counted.
@@ -206,19 +189,19 @@ impl Counts {
     // The next node, where there is room for it.
     fn add(self, table: &mut [u32], words: Words) -> Made
         requires { (self.nodes < 1024) × (self.nodes * 4 + 3 < length table.old) }
-        ensures { (result ≡ Made.Node (counts_of (self.nodes + 1) self.bytes) (record { 0 = self.nodes }))
+        ensures { (result ≡ Ok (counts_of (self.nodes + 1) self.bytes, record { 0 = self.nodes }))
             × (table.new
             ≡ over (take (self.nodes * 4) table.old ++ (words.kind ∷ words.a ∷ words.b ∷ words.c ∷ [])) table.old) }
     {
         let nodes = self.nodes;
         put(table, nodes as usize, words);
-        Made::Node(
+        Ok((
             Counts {
                 nodes: nodes + 1,
                 bytes: self.bytes,
             },
             NodeNo(nodes),
-        )
+        ))
     }
 
     // A node of these words, with which all of a whole is asked for that it is the first part of.
@@ -228,10 +211,7 @@ impl Counts {
             ≡ first_made self table.old text.now asks
             (λ s. add s words.kind words.a words.b words.c) }
     {
-        let asked = self.ask(table.len(), text.len(), asks);
-        if let Asked::Denied(why) = asked {
-            return Made::Refused(why);
-        }
+        self.ask(table.len(), text.len(), asks)?;
         self.add(table, words)
     }
 
@@ -257,13 +237,10 @@ impl Counts {
 
     // An older node, given back, with which more is asked for over a table and a text of these lengths.
     fn older(self, words: usize, bytes: usize, asks: Asks, n: NodeNo) -> Made
-        ensures { result ≡ answered (asked_for self words bytes asks) (Made.Node self n) }
+        ensures { result ≡ answered (asked_for self words bytes asks) (Ok (self, n)) }
     {
-        let asked = self.ask(words, bytes, asks);
-        if let Asked::Denied(why) = asked {
-            return Made::Refused(why);
-        }
-        Made::Node(self, n)
+        self.ask(words, bytes, asks)?;
+        Ok((self, n))
     }
 
     // An older node by itself; nothing but the operands can be wrong.
@@ -331,16 +308,4 @@ impl Counts {
             },
         )
     }
-}
-
-// What was made, with a node behind it; a refusal is handed on.
-fn appended(made: Made, table: &mut [u32], text: &[u8], n: NodeNo) -> Made
-    ensures { outcome result table.new text.now
-        ≡ onward made table.old text.now
-        (λ c before. append_made c table.old text.now before n.0) }
-{
-    let Made::Node(c, before) = made else {
-        return made;
-    };
-    c.append(table, text, before, n)
 }

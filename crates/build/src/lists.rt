@@ -4,7 +4,7 @@ ghost use Rattle.build.specs.Solid.{solid};
 ghost use Rattle.build.specs.Outcome.{outcome};
 ghost use Rattle.build.specs.Constructors.{has, has_all, enclose_made, concat_made, intersperse_made};
 
-use crate::{Asks, Counts, Made, appended, less_one};
+use crate::{Asks, Counts, Made, less_one};
 use table::{NIL, NodeNo, Words};
 
 impl Counts {
@@ -82,16 +82,12 @@ impl Counts {
             nodes: more,
             bytes: 0,
         };
-        let mut made = self.older(table.len(), text.len(), asks, NodeNo(nodes[0]));
-        let mut i = 1;
-        while i < nodes.len() {
-            let Made::Node(c, n) = made else {
-                return made;
-            };
-            made = c.append(table, text, n, NodeNo(nodes[i]));
-            i += 1;
+        let mut made = self.older(table.len(), text.len(), asks, NodeNo(nodes[0]))?;
+        for &n in &nodes[1..] {
+            let (c, before) = made;
+            made = c.append(table, text, before, NodeNo(n))?;
         }
-        made
+        Ok(made)
     }
 
     // The node between the two others.
@@ -143,16 +139,12 @@ impl Counts {
             nodes: more,
             bytes: 0,
         };
-        let mut made = self.older(table.len(), text.len(), asks, NodeNo(nodes[0]));
-        let mut i = 1;
-        while i < nodes.len() {
-            let Made::Node(c, n) = made else {
-                return made;
-            };
-            made = c.append(table, text, n, separator);
-            made = appended(made, table, text, NodeNo(nodes[i]));
-            i += 1;
+        let mut made = self.older(table.len(), text.len(), asks, NodeNo(nodes[0]))?;
+        for &n in &nodes[1..] {
+            let (c, before) = made;
+            let (c, separated) = c.append(table, text, before, separator)?;
+            made = c.append(table, text, separated, NodeNo(n))?;
         }
-        made
+        Ok(made)
     }
 }

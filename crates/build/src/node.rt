@@ -4,7 +4,7 @@ ghost use Rattle.build.specs.Outcome.{outcome};
 ghost use Rattle.build.specs.Constructors.{nil_made, append_made, group_made, flat_alt_made, nest_made, hardline_made, text_made};
 ghost use Rattle.build.specs.Constructors.{annotate_made, union_made, align_made, fail_made};
 
-use crate::{Asked, Asks, Counts, Made};
+use crate::{Asks, Counts, Made};
 use table::{
     ALIGN, ANNOTATED, APPEND, Column, FAIL, FLAT_ALT, GROUP, HARDLINE, Indent, NIL, NodeNo, TEXT,
     UNION, Words, columns_right,
@@ -196,7 +196,7 @@ impl Counts {
     {
         let size = bytes.len();
         let right = columns_right(bytes, columns);
-        let asked = self.ask(
+        self.ask(
             table.len(),
             text.len(),
             Asks {
@@ -206,10 +206,7 @@ impl Counts {
                 nodes: 1,
                 bytes: size,
             },
-        );
-        if let Asked::Denied(why) = asked {
-            return Made::Refused(why);
-        }
+        )?;
         if size == 0 {
             return self.add(
                 table,

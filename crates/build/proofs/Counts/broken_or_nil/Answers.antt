@@ -1,24 +1,29 @@
 -- `broken_or_nil`, part by part.
-use native.Mathlib.Omega.{arith}
+use Rattle.std.proofs.lemmas.Result.{err_from_is_err_and}
+use mathlib.Core.Path.{refl}
 use Rattle.build.specs.Parts.{line₀}
 use Rattle.build.proofs.Lines.{nil_one, line_refused, line_made_lem}
 use Rattle.build.proofs.Counts.broken_or_nil.Goals as goal
 
-pub node-made-requires : goal.node-made-requires
-node-made-requires c =
-    let p = c.requires in
-    omega (arith, p)
-
-pub returns-in_default : goal.returns-in_default
+pub returns-in_err-c : goal.returns-in_err-c
 unfolding line₀
-returns-in_default c =
+returns-in_err-c c =
     let args = c.args in
-    line_refused args.self args.table.now args.text.now nil_one args.nodes c.requires c.node-made.ensures
-    c.in_default.is
+    let handed = err_from_is_err_and c.from_residual.result c.from_residual.ensures.1 in
+    rw (handed.1, handed.2)
+    (line_refused args.self args.table.now args.text.now nil_one args.nodes c.requires c.in_err-c.ensures refl)
+
+pub returns-in_err-c-2 : goal.returns-in_err-c-2
+unfolding line₀
+returns-in_err-c-2 c =
+    let args = c.args in
+    let handed = err_from_is_err_and c.from_residual-in_err-c-2.result c.from_residual-in_err-c-2.ensures.1 in
+    rw (handed.1, handed.2)
+    (line_made_lem args.self args.table.now args.text.now nil_one args.nodes c.requires c.in_ok-c.ensures refl _ _ _ c.in_err-c-2.ensures refl)
 
 pub returns : goal.returns
 unfolding line₀
 returns c =
     let args = c.args in
-    line_made_lem args.self args.table.now args.text.now nil_one args.nodes c.requires c.node-made.ensures
-    c.in-Node.is _ _ _ c.nil-made.ensures c.or_flat.ensures
+    line_made_lem args.self args.table.now args.text.now nil_one args.nodes c.requires c.in_ok-c.ensures refl _ _ _ c.in_ok-c-2.ensures
+    c.flat_alt.ensures

@@ -1,6 +1,8 @@
+-- `concat`: of none one Nil, else the first with the others joined to it.
 use mathlib.Core.Path.{refl, sym, ◌∙◌}
 use native.Mathlib.Omega.{arith}
-use Rattle.build.proofs.Joins.{join-refused}
+use Rattle.std.proofs.lemmas.Result.{err_from_is_err_and}
+use Rattle.build.proofs.Joins.{join-refused, rest_of, rest_of-is}
 use Rattle.build.proofs.Concats.{concat-none, concat-made, concat-turn, concat-end}
 use Rattle.build.proofs.Counts.concat.Goals as goal
 
@@ -9,56 +11,45 @@ returns-then-nodes-eq0 c =
     let args = c.args in
     c.nil.ensures ∙ concat-none args.self args.table.now args.text.now args.nodes.now c.if-nodes-eq0.true
 
-pub bounds-nodes-0 : goal.bounds-nodes-0
-bounds-nodes-0 c =
-    omega (arith, c.if-nodes-eq0.false)
-
-pub loop-i-init : goal.loop-i-init
-loop-i-init c =
-    record { some = omega arith; inside = omega (arith, c.if-nodes-eq0.false); kept = refl; joins = refl }
-
-pub shape_of-table-in_default : goal.shape_of-table-in_default
-shape_of-table-in_default c =
-    c.loop-i.invariant.kept
-
-pub returns-in_default : goal.returns-in_default
-returns-in_default c =
-    let from_first =
-    concat-made c.args.self c.args.table.now c.args.text.now c.args.nodes.now (omega (arith, c.if-nodes-eq0.false))
-    (rw (c.has_all-present.ensures, c.less_one-more.ensures, c.solid.ensures) at c.older-made.ensures) in
-    sym
-    (join-refused c.loop-i.table c.args.text.now _
-    c.in_default.is)
-    ∙ c.loop-i.invariant.joins
-    ∙ from_first
-
-pub overflow_add-i : goal.overflow_add-i
-overflow_add-i c =
-    omega (arith, c.loop-i-test.true, c.well_formed)
-
-pub loop-i-preserved : goal.loop-i-preserved
-loop-i-preserved c =
+pub returns-in_err-made : goal.returns-in_err-made
+returns-in_err-made c =
     let args = c.args in
-    let now = c.loop-i in
+    let first = rw (c.has_all-present.ensures, c.less_one-more.ensures, c.solid.ensures) at c.in_err-made.ensures in
+    let handed = err_from_is_err_and c.from_residual.result c.from_residual.ensures.1 in
+    rw (handed.1, handed.2)
+    (sym (join-refused _ _ _ _) ∙ concat-made args.self args.table.now args.text.now args.nodes.now (omega (arith, c.if-nodes-eq0.false)) first)
+
+pub loop-n-init : goal.loop-n-init
+loop-n-init c =
+    let args = c.args in
+    let first = rw (c.has_all-present.ensures, c.less_one-more.ensures, c.solid.ensures) at c.in_ok-made.ensures in
     record {
-      some = omega arith;
-      inside = omega arith;
-      kept = c.append-made.auto.table ∙ now.invariant.kept;
+      kept = refl;
+      joins = rw (rest_of-is args.nodes.now) (concat-made args.self args.table.now args.text.now args.nodes.now (omega (arith, c.if-nodes-eq0.false)) first);
+    }
+
+pub returns-in_err-made-2 : goal.returns-in_err-made-2
+returns-in_err-made-2 c =
+    let args = c.args in
+    let now = c.loop-n in
+    let handed = err_from_is_err_and c.from_residual-in_err-made-2.result c.from_residual-in_err-made-2.ensures.1 in
+    rw (handed.1, handed.2)
+    (sym (join-refused _ _ _ _)
+    ∙ concat-turn _ now.table args.text.now (rest_of args.nodes.now) now.n-index c.loop-n-test.true c.in_err-made-2.ensures
+    ∙ now.invariant.joins)
+
+pub loop-n-preserved : goal.loop-n-preserved
+loop-n-preserved c =
+    let args = c.args in
+    let now = c.loop-n in
+    record {
+      kept = c.append.auto.table ∙ now.invariant.kept;
       joins =
-          concat-turn now.made now.table args.text.now args.nodes.now now.i c.loop-i-test.true
-          (rw c.in-Node.is c.append-made.ensures)
+          concat-turn _ now.table args.text.now (rest_of args.nodes.now) now.n-index c.loop-n-test.true c.in_ok-made-2.ensures
           ∙ now.invariant.joins;
     }
 
-pub shape_of-table : goal.shape_of-table
-shape_of-table c = c.loop-i.invariant.kept
-
 pub returns : goal.returns
 returns c =
-    let from_first =
-    concat-made c.args.self c.args.table.now c.args.text.now c.args.nodes.now (omega (arith, c.if-nodes-eq0.false))
-    (rw (c.has_all-present.ensures, c.less_one-more.ensures, c.solid.ensures) at c.older-made.ensures) in
-    concat-end c.args.nodes.now c.loop-i.i
-    c.loop-i-test.false
-    ∙ c.loop-i.invariant.joins
-    ∙ from_first
+    let now = c.loop-n in
+    concat-end (rest_of c.args.nodes.now) now.n-index c.loop-n-test.false ∙ now.invariant.joins

@@ -1,11 +1,10 @@
 -- `concat`: the loop joins one more each turn.
-use Prim.Native.Nat.{◌-◌}
-use lib.ListN.{length}
-use Rattle.build.proofs.Joins.{Joining}
+use lib.ListN.{length, drop}
+use Rattle.build.specs.Constructors.{concat_made}
+use Rattle.build.proofs.Joins.{rest_of, Joining}
 use Rattle.build.proofs.Counts.concat.Given as goal
 
-abbrev pub invariant-loop-i : goal.invariant-loop-i
-invariant-loop-i l = Joining (λ l. l) l.nodes l.text l.initial.table l.initial.made l.table l.made l.i
-
-abbrev pub decreases-loop-i : goal.decreases-loop-i
-decreases-loop-i l = length l.nodes - l.i
+abbrev pub invariant-loop-n : goal.invariant-loop-n
+invariant-loop-n l =
+    Joining l.text (concat_made l.fn.self l.fn.table l.text l.nodes) (length l.fn.table) l.table l.made
+    (drop l.n-index (rest_of l.nodes))

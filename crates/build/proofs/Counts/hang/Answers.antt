@@ -1,18 +1,20 @@
 -- `hang`, part by part.
+use Rattle.std.proofs.lemmas.Result.{err_from_is_err_and}
+use mathlib.Core.Path.{refl}
 use Rattle.build.specs.Draft.{counted}
 use Rattle.build.proofs.Hangs.{hang-refused, hang-made}
 use Rattle.build.proofs.Counts.hang.Goals as goal
 
-pub returns-in_default : goal.returns-in_default
+pub returns-in_err-c : goal.returns-in_err-c
 unfolding counted
-returns-in_default c =
+returns-in_err-c c =
     let args = c.args in
-    hang-refused args.self args.table.now args.text.now args.n.0 args.amount.0 args.way
-    c.nest_before-first.ensures c.in_default.is
+    let handed = err_from_is_err_and c.from_residual.result c.from_residual.ensures.1 in
+    rw (handed.1, handed.2)
+    (hang-refused args.self args.table.now args.text.now args.n.0 args.amount.0 args.way c.in_err-c.ensures refl)
 
 pub returns : goal.returns
 unfolding counted
 returns c =
     let args = c.args in
-    hang-made args.self args.table.now args.text.now args.n.0 args.amount.0 args.way c.nest_before-first.ensures
-    c.in-Node.is c.align.ensures
+    hang-made args.self args.table.now args.text.now args.n.0 args.amount.0 args.way c.in_ok-c.ensures refl c.align.ensures

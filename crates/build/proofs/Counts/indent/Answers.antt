@@ -1,28 +1,37 @@
 -- `indent`, part by part.
-use Rattle.build.proofs.Indents.{indent_by, indent-refused, indent_handed-on, indent_went-on}
+use Rattle.std.proofs.lemmas.Result.{err_from_is_err_and}
+use mathlib.Core.Path.{refl}
+use Rattle.build.proofs.Indents.{indent_by, indent-refused, indent-made}
 use Rattle.build.proofs.Counts.indent.Goals as goal
 
-pub returns-in-Denied : goal.returns-in-Denied
-returns-in-Denied c =
+pub returns-in_err-ask_indent : goal.returns-in_err-ask_indent
+returns-in_err-ask_indent c =
     let args = c.args in
-    indent-refused args.self args.table.now args.text.now args.n.0 args.by.0 c.ask_indent-asked.ensures
-    c.in-Denied.is
+    let handed = err_from_is_err_and c.from_residual.result c.from_residual.ensures.1 in
+    rw (handed.1, handed.2)
+    (indent-refused args.self args.table.now args.text.now args.n.0 args.by.0 c.ask_indent.ensures c.in_err-ask_indent.was)
 
-pub blanks-made-requires : goal.blanks-made-requires
-blanks-made-requires c =
+pub blanks-requires : goal.blanks-requires
+blanks-requires c =
     let args = c.args in
-    indent_by args.self args.table.now args.text.now args.n.0 args.by.0 c.ask_indent-asked.ensures
-    c.in_default.is
+    indent_by args.self args.table.now args.text.now args.n.0 args.by.0 c.ask_indent.ensures c.in_ok-ask_indent.was
 
-pub returns-in_default-made : goal.returns-in_default-made
-returns-in_default-made c =
+pub returns-in_err-c : goal.returns-in_err-c
+returns-in_err-c c =
     let args = c.args in
-    indent_handed-on args.self args.table.now args.text.now args.n.0 args.by.0 c.ask_indent-asked.ensures
-    c.in_default.is _ _ _ c.blanks-made.ensures c.in_default-made.is
+    let handed = err_from_is_err_and c.from_residual-in_err-c.result c.from_residual-in_err-c.ensures.1 in
+    rw (handed.1, handed.2)
+    (indent-made args.self args.table.now args.text.now args.n.0 args.by.0 c.ask_indent.ensures c.in_ok-ask_indent.was _ _ _ c.in_err-c.ensures _ _ _ refl refl)
+
+pub returns-in_err-c-2 : goal.returns-in_err-c-2
+returns-in_err-c-2 c =
+    let args = c.args in
+    let handed = err_from_is_err_and c.from_residual-in_err-c-2.result c.from_residual-in_err-c-2.ensures.1 in
+    rw (handed.1, handed.2)
+    (indent-made args.self args.table.now args.text.now args.n.0 args.by.0 c.ask_indent.ensures c.in_ok-ask_indent.was _ _ _ c.in_ok-c.ensures _ _ _ c.in_err-c-2.ensures refl)
 
 pub returns : goal.returns
 returns c =
     let args = c.args in
-    indent_went-on args.self args.table.now args.text.now args.n.0 args.by.0 c.ask_indent-asked.ensures
-    c.in_default.is _ _ _ c.blanks-made.ensures c.in-Node.is _ _ _ c.append-made.ensures
-    c.hung.ensures
+    indent-made args.self args.table.now args.text.now args.n.0 args.by.0 c.ask_indent.ensures c.in_ok-ask_indent.was _ _ _ c.in_ok-c.ensures _ _ _ c.in_ok-c-2.ensures
+    c.hang.ensures

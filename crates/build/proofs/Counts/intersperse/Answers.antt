@@ -1,7 +1,9 @@
+-- `intersperse`: of none one Nil, else the first with a separator and each of the others joined to it.
 use mathlib.Core.Path.{refl, sym, ◌∙◌}
 use native.Mathlib.Omega.{arith}
+use Rattle.std.proofs.lemmas.Result.{err_from_is_err_and}
 use Rattle.build.proofs.Leaf.{by-operands}
-use Rattle.build.proofs.Joins.{join-refused}
+use Rattle.build.proofs.Joins.{join-refused, rest_of, rest_of-is}
 use Rattle.build.proofs.Separated.{intersperse-none, intersperse-made, intersperse-turn, intersperse-end}
 use Rattle.build.proofs.Counts.intersperse.Goals as goal
 
@@ -11,63 +13,60 @@ returns-then-nodes-eq0 c =
     by-operands args.self args.table.now args.text.now c.has_with-present.ensures _ c.one.ensures
     ∙ intersperse-none args.self args.table.now args.text.now args.separator.0 args.nodes.now c.if-nodes-eq0.true
 
-pub separated_adds-more-requires : goal.separated_adds-more-requires
-separated_adds-more-requires c = omega (arith, c.if-nodes-eq0.false)
-
-pub bounds-nodes-0 : goal.bounds-nodes-0
-bounds-nodes-0 c =
-    omega (arith, c.if-nodes-eq0.false)
-
-pub loop-i-init : goal.loop-i-init
-loop-i-init c =
-    record { some = omega arith; inside = omega (arith, c.if-nodes-eq0.false); kept = refl; joins = refl }
-
-pub shape_of-table-in_default : goal.shape_of-table-in_default
-shape_of-table-in_default c =
-    c.loop-i.invariant.kept
-
-pub returns-in_default : goal.returns-in_default
-returns-in_default c =
-    let from_first =
-    intersperse-made c.args.separator.0 c.args.nodes.now (omega (arith, c.if-nodes-eq0.false)) c.args.self c.args.table.now
-    c.args.text.now
-    (rw (c.has_with-present.ensures, c.separated_adds-more.ensures) at c.older-made.ensures) in
-    sym
-    (join-refused c.loop-i.table c.args.text.now _
-    c.in_default.is)
-    ∙ c.loop-i.invariant.joins
-    ∙ from_first
-
-pub offset_bounds-nodes-i : goal.offset_bounds-nodes-i
-offset_bounds-nodes-i c =
-    omega (arith, c.loop-i-test.true, c.well_formed)
-
-pub overflow_add-i : goal.overflow_add-i
-overflow_add-i c =
-    omega (arith, c.loop-i-test.true, c.well_formed)
-
-pub loop-i-preserved : goal.loop-i-preserved
-loop-i-preserved c =
+pub returns-in_err-made : goal.returns-in_err-made
+returns-in_err-made c =
     let args = c.args in
-    let now = c.loop-i in
-    let turned =
-    intersperse-turn now.made c.append-made.result now.table _ args.text.now args.separator.0 args.nodes.now now.i
-    c.loop-i-test.true (rw c.in-Node.is c.append-made.ensures) c.appended-made.ensures in
+    let first = rw (c.has_with-present.ensures, c.separated_adds-more.ensures) at c.in_err-made.ensures in
+    let handed = err_from_is_err_and c.from_residual.result c.from_residual.ensures.1 in
+    rw (handed.1, handed.2)
+    (sym (join-refused _ _ _ _)
+    ∙ intersperse-made args.separator.0 args.nodes.now (omega (arith, c.if-nodes-eq0.false)) args.self args.table.now args.text.now first)
+
+pub loop-n-init : goal.loop-n-init
+loop-n-init c =
+    let args = c.args in
+    let first = rw (c.has_with-present.ensures, c.separated_adds-more.ensures) at c.in_ok-made.ensures in
     record {
-      some = omega arith;
-      inside = omega arith;
-      kept = c.appended-made.auto.table ∙ c.append-made.auto.table ∙ now.invariant.kept;
-      joins = turned ∙ now.invariant.joins;
+      kept = refl;
+      joins =
+          rw (rest_of-is args.nodes.now)
+          (intersperse-made args.separator.0 args.nodes.now (omega (arith, c.if-nodes-eq0.false)) args.self args.table.now args.text.now first);
     }
 
-pub shape_of-table : goal.shape_of-table
-shape_of-table c = c.loop-i.invariant.kept
+pub returns-in_err-c : goal.returns-in_err-c
+returns-in_err-c c =
+    let args = c.args in
+    let now = c.loop-n in
+    let handed = err_from_is_err_and c.from_residual-in_err-c.result c.from_residual-in_err-c.ensures.1 in
+    rw (handed.1, handed.2)
+    (sym (join-refused _ _ _ _)
+    ∙ intersperse-turn _ _ now.table _ args.text.now args.separator.0 (rest_of args.nodes.now) now.n-index c.loop-n-test.true c.in_err-c.ensures refl
+    ∙ now.invariant.joins)
+
+pub returns-in_err-made-2 : goal.returns-in_err-made-2
+returns-in_err-made-2 c =
+    let args = c.args in
+    let now = c.loop-n in
+    let handed = err_from_is_err_and c.from_residual-in_err-made-2.result c.from_residual-in_err-made-2.ensures.1 in
+    rw (handed.1, handed.2)
+    (sym (join-refused _ _ _ _)
+    ∙ intersperse-turn _ _ now.table _ args.text.now args.separator.0 (rest_of args.nodes.now) now.n-index c.loop-n-test.true c.in_ok-c.ensures
+    c.in_err-made-2.ensures
+    ∙ now.invariant.joins)
+
+pub loop-n-preserved : goal.loop-n-preserved
+loop-n-preserved c =
+    let args = c.args in
+    let now = c.loop-n in
+    record {
+      kept = c.append-in-loop-n.auto.table ∙ c.append.auto.table ∙ now.invariant.kept;
+      joins =
+          intersperse-turn _ _ now.table _ args.text.now args.separator.0 (rest_of args.nodes.now) now.n-index c.loop-n-test.true c.in_ok-c.ensures
+          c.in_ok-made-2.ensures
+          ∙ now.invariant.joins;
+    }
 
 pub returns : goal.returns
 returns c =
-    let from_first =
-    intersperse-made c.args.separator.0 c.args.nodes.now (omega (arith, c.if-nodes-eq0.false)) c.args.self c.args.table.now
-    c.args.text.now
-    (rw (c.has_with-present.ensures, c.separated_adds-more.ensures) at c.older-made.ensures) in
-    let args = c.args in
-    intersperse-end args.separator.0 args.nodes.now c.loop-i.i c.loop-i-test.false ∙ c.loop-i.invariant.joins ∙ from_first
+    let now = c.loop-n in
+    intersperse-end c.args.separator.0 (rest_of c.args.nodes.now) now.n-index c.loop-n-test.false ∙ now.invariant.joins

@@ -1,12 +1,11 @@
 -- `intersperse`: the loop joins a separator and one more each turn.
-use Prim.Native.Nat.{◌-◌}
-use lib.ListN.{length}
+use lib.ListN.{length, drop}
 use Rattle.build.specs.Parts.{separated}
-use Rattle.build.proofs.Joins.{Joining}
+use Rattle.build.specs.Constructors.{intersperse_made}
+use Rattle.build.proofs.Joins.{rest_of, Joining}
 use Rattle.build.proofs.Counts.intersperse.Given as goal
 
-abbrev pub invariant-loop-i : goal.invariant-loop-i
-invariant-loop-i l = Joining (separated l.separator.0) l.nodes l.text l.initial.table l.initial.made l.table l.made l.i
-
-abbrev pub decreases-loop-i : goal.decreases-loop-i
-decreases-loop-i l = length l.nodes - l.i
+abbrev pub invariant-loop-n : goal.invariant-loop-n
+invariant-loop-n l =
+    Joining l.text (intersperse_made l.fn.self l.fn.table l.text l.nodes l.separator.0) (length l.fn.table) l.table l.made
+    (separated l.separator.0 (drop l.n-index (rest_of l.nodes)))

@@ -1,20 +1,21 @@
 -- `softline`: a line and its group.
+use Rattle.std.proofs.lemmas.Result.{err_from_is_err_and}
 use mathlib.Core.Path.{refl}
 use Rattle.build.specs.Parts.{line, softline}
 use Rattle.build.proofs.Lines.{space_one}
 use Rattle.build.proofs.Softlines.{soft-made}
 use Rattle.build.proofs.Counts.softline.Goals as goal
 
-pub returns-in_default : goal.returns-in_default
+pub returns-in_err-c : goal.returns-in_err-c
 unfolding line softline
-returns-in_default c =
+returns-in_err-c c =
     let args = c.args in
-    soft-made args.self args.table.now args.text.now space_one _ _ _ c.broken_or_blank-line.ensures
-    (rw c.in_default.is refl)
+    let handed = err_from_is_err_and c.from_residual.result c.from_residual.ensures.1 in
+    rw (handed.1, handed.2)
+    (soft-made args.self args.table.now args.text.now space_one _ _ _ c.in_err-c.ensures refl)
 
 pub returns : goal.returns
 unfolding line softline
 returns c =
     let args = c.args in
-    soft-made args.self args.table.now args.text.now space_one _ _ _ c.broken_or_blank-line.ensures
-    (rw c.in-Node.is c.group.ensures)
+    soft-made args.self args.table.now args.text.now space_one _ _ _ c.in_ok-c.ensures c.group.ensures
