@@ -32,6 +32,9 @@ use Rattle.block.specs.Operands.{Askable}
 use Rattle.block.proofs.Chain.{no_room, ran-older}
 use Rattle.block.proofs.Starts.{layouts-adds, layouts_three}
 
+abbrev agreed : Asked
+agreed = Ok tt
+
 -- denied with fewer nodes: denied with more
 denied-on : (q : Bool) (w why : Why) (x y : Asked) → (x ≡ Err why → y ≡ Err why) → pick q (Err w) x ≡ Err why → pick q (Err w) y ≡ Err why
 denied-on true w why x y f e = e
@@ -48,8 +51,8 @@ asked-more c words bytes present amount text n m used why a b e =
     (denied-on (not (fits c.bytes used 65536 bytes)) Bytes why _ _ (last (fits c.nodes n 1024 (words / 4)) (fits c.nodes m 1024 (words / 4)) refl refl)))))
     e
   where
-    last : (p q : Bool) → fits c.nodes n 1024 (words / 4) ≡ p → fits c.nodes m 1024 (words / 4) ≡ q → pick (not p) (Err Nodes) (Ok tt) ≡ Err why
-        → pick (not q) (Err Nodes) (Ok tt) ≡ Err why
+    last : (p q : Bool) → fits c.nodes n 1024 (words / 4) ≡ p → fits c.nodes m 1024 (words / 4) ≡ q → pick (not p) (Err Nodes) agreed ≡ Err why
+        → pick (not q) (Err Nodes) agreed ≡ Err why
     last true q h k x = let z : ◌≡◌ {A = ℕ} 0 1 = cc in absurd (omega arith)
     last false true h k x = absurd (true≢false (sym k ∙ no_room c.nodes n m (words / 4) a b h))
     last false false h k x = x
@@ -115,7 +118,7 @@ module _ (c : Counts) (table text : List ℕ) (b : Block) (ps ss : List ℕ) (qs
           (rw (add-zero c.bytes) at d))
       by false q = no_operand _ _ _ _ q d
 
-  module _ (granted : few-asked ≡ (Ok tt)) where
+  module _ (granted : few-asked ≡ agreed) where
     facts : Passed c (length table) (length text) present right true (c.nodes + least (length ps)) (c.bytes + 0)
     facts = passed c (length table) (length text) present right true (c.nodes + least (length ps)) (c.bytes + 0) granted
 

@@ -1,4 +1,5 @@
 -- The laws of the constructors, with no code in sight: what grows, what has room, each constructor part by part, and what is promised.
+pub mod Handed
 pub mod Grow
 pub mod Room
 pub mod Stand

@@ -2,7 +2,7 @@
 --     empty-valid                the empty table is valid
 --     new, kept, shares-kept     the node built, an older one, and the shared ones, over the table afterwards
 --     after                      from one answer to the next, over what the first built
---     refused, given             an answer without a node, and an older node given back
+--     refused, given             a refusal handed on, and an older node given back
 --     gives, nils .. joins      each constructor, by the documents of its operands
 --     answers, stops, goes       a chain of constructors, by the answer of the first
 -- Assumes nothing.
@@ -17,6 +17,8 @@ use Rattle.build.specs.declared.Counts.{Counts}
 use Rattle.build.specs.declared.Why.{Why}
 use Rattle.build.specs.Outcome.{Made}
 use Rattle.std.specs.Prelude.{Ok, Err}
+use Rattle.std.specs.Result.{IsErrAnd}
+use Rattle.build.proofs.Handed.{handed}
 use Rattle.build.specs.Outcome.{Outcome, outcome}
 use Rattle.build.specs.Constructors.{nil_made, hardline_made, line_made, group_made, text_made, append_made, nest_made, annotate_made, union_made, concat_made}
 use Rattle.build.specs.Documents.{line_doc, group_doc, text_doc, append_doc, nest_doc, concat_doc}
@@ -56,13 +58,14 @@ module _ {c : Counts} {t x : List ℕ} where
   pub after : {r : Made} {t' x' : List ℕ} {d : Doc} {c' : Counts} {n : NodeNo} {o : Outcome} {e : Doc} → Gives c t x r t' x' d → r ≡ Ok (c', n) → (Builds c t x (outcome r t' x') d c' n → Promise c' t' x' o e) → Promise c t x o e
   after {c' = c'} {n = n} g is f = λ k m e v. let b = g c' n is v in then b (f b k m e b.valid)
 
-  pub refused : {r : Made} {t' x' : List ℕ} {d : Doc} {why : Why} → r ≡ Err why → Gives c t x r t' x' d
-  refused is = λ k m e v. let z : ◌≡◌ {A = ℕ} 0 1 = cc in absurd (omega arith)
+  pub refused : (r : Made) {t' x' : List ℕ} {d : Doc} (why : Why) → IsErrAnd r (λ w. w ≡ why) → Gives c t x r t' x' d
+  refused r why h = λ k m e v. let is = handed r h in let z : ◌≡◌ {A = ℕ} 0 1 = cc in absurd (omega arith)
 
   pub given : {n : NodeNo} {d : Doc} → Is c t x n d → Gives c t x (Ok (c, n)) t x d
   given {n} {d} i = λ k m e v.
-      let p : c ≡ k = cc in
-      let q : n ≡ m = cc in
+      let both : ◌≡◌ {A = Counts × NodeNo} (c, n) (k, m) = cc in
+      let p : c ≡ k = ap (λ (z : Counts × NodeNo). z.0) both in
+      let q : n ≡ m = ap (λ (z : Counts × NodeNo). z.1) both in
       let b : Builds c t x (outcome (Ok (c, n)) t x) d c n = record { valid = v; grown = omega arith; older = λ j h. refl; present = i.there; unfolds = i.unfolds } in
       subst (λ (z : Counts). Builds c t x (outcome (Ok (c, n)) t x) d z m) p (subst (λ (z : NodeNo). Builds c t x (outcome (Ok (c, n)) t x) d c z) q b)
 

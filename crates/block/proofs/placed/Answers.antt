@@ -1,6 +1,7 @@
 -- `placed`: built on a table of its own, then laid over the lent one.
 use native.Mathlib.Omega.{arith}
 use Rattle.block.proofs.Places.{own_ready, placed-stop, placed-short, placed_copies, placed_last}
+use Rattle.build.proofs.Handed.{handed_on}
 use Rattle.block.proofs.placed.Goals as goal
 
 pub layouts-requires : goal.layouts-requires
@@ -9,8 +10,9 @@ layouts-requires c =
 
 pub returns-in_err-d : goal.returns-in_err-d
 returns-in_err-d c =
-    placed-stop c.requires.0 c.requires.1 c.requires.2 c.copy_words.ensures c.layouts.ensures
-    c.in_err-d.was
+    rw (handed_on c.from_residual.result c.from_residual.ensures.1 c.in_err-d.was)
+    (placed-stop c.requires.0 c.requires.1 c.requires.2 c.copy_words.ensures c.layouts.ensures
+    c.in_err-d.was)
 
 pub returns-then-table-nodes : goal.returns-then-table-nodes
 returns-then-table-nodes c =

@@ -2,6 +2,7 @@ use mathlib.Core.Path.{◌∙◌}
 use native.Mathlib.Omega.{arith}
 use Rattle.build.proofs.Stand.{same-words}
 use Rattle.block.proofs.Loops.{left-start, left_asks, left_stop₁, left_stop₂, left-next, left_end}
+use Rattle.build.proofs.Handed.{handed_on}
 use Rattle.block.proofs.unions.Goals as goal
 
 pub loop-split-init : goal.loop-split-init
@@ -14,25 +15,19 @@ alternative-requires c =
     let args = c.args in
     left_asks c.requires.0 c.requires.1 args.nests.now args.n args.split c.loop-split-test.true c.loop-split.invariant c.requires.2
 
-pub shape_of-table-in_default : goal.shape_of-table-in_default
-shape_of-table-in_default c =
-    c.alternative.auto.table ∙ same-words c.loop-split.invariant.place.stands
-
 pub returns-in_err-next : goal.returns-in_err-next
 returns-in_err-next c =
     let args = c.args in
-    left_stop₁ c.requires.0 c.requires.1 args.nests.now args.n args.split c.loop-split-test.true c.loop-split.invariant
-    c.alternative.ensures c.in_err-next.was
-
-pub shape_of-table-in_default-joined : goal.shape_of-table-in_default-joined
-shape_of-table-in_default-joined c =
-    c.union.auto.table ∙ c.alternative.auto.table ∙ same-words c.loop-split.invariant.place.stands
+    rw (handed_on c.from_residual.result c.from_residual.ensures.1 c.in_err-next.was)
+    (left_stop₁ c.requires.0 c.requires.1 args.nests.now args.n args.split c.loop-split-test.true c.loop-split.invariant
+    c.alternative.ensures c.in_err-next.was)
 
 pub returns-in_err-next-2 : goal.returns-in_err-next-2
 returns-in_err-next-2 c =
     let args = c.args in
-    left_stop₂ c.requires.0 c.requires.1 args.nests.now args.n args.split c.loop-split-test.true c.loop-split.invariant
-    c.alternative.ensures c.in_ok-next.was c.union.ensures c.in_err-next-2.was
+    rw (handed_on c.from_residual-in_err-next-2.result c.from_residual-in_err-next-2.ensures.1 c.in_err-next-2.was)
+    (left_stop₂ c.requires.0 c.requires.1 args.nests.now args.n args.split c.loop-split-test.true c.loop-split.invariant
+    c.alternative.ensures c.in_ok-next.was c.union.ensures c.in_err-next-2.was)
 
 pub overflow_sub-split : goal.overflow_sub-split
 overflow_sub-split c =

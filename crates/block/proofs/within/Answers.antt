@@ -1,22 +1,26 @@
 -- `within`: asked for, then the body or all layouts.
 use mathlib.Core.Path.{sym, ◌∙◌}
+use mathlib.Core.Bool.{true≢false}
+use borrow.Author.Tests.{eqb-true, eq-eqb}
 use Rattle.block.proofs.Asking.{within-refused, within-body, within_asks, within_last}
+use Rattle.build.proofs.Handed.{handed}
 use Rattle.block.proofs.within.Goals as goal
 
 pub returns-in_err-ask : goal.returns-in_err-ask
 returns-in_err-ask c =
     let args = c.args in
-    within-refused args.c args.table.now args.text.now args.block args.prefixes.now args.suffixes.now args.nests.now _
+    rw (handed c.from_residual.result c.from_residual.ensures.1)
+    (within-refused args.c args.table.now args.text.now args.block args.prefixes.now args.suffixes.now args.nests.now _
     (sym (rw (c.operands-present.ensures, c.nest_right-right.ensures, c.least-few.ensures) at c.ask.ensures)
-    ∙ c.in_err-ask.was)
+    ∙ c.in_err-ask.was))
 
-pub returns-then-prefixes-eq0 : goal.returns-then-prefixes-eq0
-returns-then-prefixes-eq0 c =
+pub returns-then-is_empty : goal.returns-then-is_empty
+returns-then-is_empty c =
     let args = c.args in
     within-body args.c args.table.now args.text.now args.block args.prefixes.now args.suffixes.now args.nests.now
     (sym (rw (c.operands-present.ensures, c.nest_right-right.ensures, c.least-few.ensures) at c.ask.ensures)
     ∙ c.in_ok-ask.was)
-    c.if-prefixes-eq0.true
+    (eqb-true _ _ (sym c.is_empty.ensures ∙ c.if-is_empty.true))
 
 pub placed-requires : goal.placed-requires
 placed-requires c =
@@ -24,7 +28,7 @@ placed-requires c =
     within_asks args.c args.table.now args.text.now args.block args.prefixes.now args.suffixes.now args.nests.now
     (sym (rw (c.operands-present.ensures, c.nest_right-right.ensures, c.least-few.ensures) at c.ask.ensures)
     ∙ c.in_ok-ask.was)
-    c.if-prefixes-eq0.false c.requires
+    (λ e. true≢false (sym (eq-eqb _ _ e) ∙ sym c.is_empty.ensures ∙ c.if-is_empty.false)) c.requires
 
 pub returns : goal.returns
 returns c =
@@ -32,4 +36,4 @@ returns c =
     within_last args.c args.table.now args.text.now args.block args.prefixes.now args.suffixes.now args.nests.now
     (sym (rw (c.operands-present.ensures, c.nest_right-right.ensures, c.least-few.ensures) at c.ask.ensures)
     ∙ c.in_ok-ask.was)
-    c.if-prefixes-eq0.false c.placed.ensures
+    (λ e. true≢false (sym (eq-eqb _ _ e) ∙ sym c.is_empty.ensures ∙ c.if-is_empty.false)) c.placed.ensures

@@ -18,7 +18,7 @@ pub part-requires : goal.part-requires
 part-requires c = tt
 
 pub returns-in_err-c : goal.returns-in_err-c
-returns-in_err-c c = λ d s i. refused c.in_err-c.was
+returns-in_err-c c = λ d s i. refused c.from_residual.result _ c.from_residual.ensures.1
 
 pub append-requires : goal.append-requires
 append-requires c = tt

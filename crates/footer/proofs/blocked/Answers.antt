@@ -9,13 +9,13 @@ pub append-requires : goal.append-requires
 append-requires c = tt
 
 pub returns-in_err-c : goal.returns-in_err-c
-returns-in_err-c c = λ d s i. refused c.in_err-c.was
+returns-in_err-c c = λ d s i. refused c.from_residual.result _ c.from_residual.ensures.1
 
 pub leaf-requires : goal.leaf-requires
 leaf-requires c = tt
 
 pub returns-in_err-c-2 : goal.returns-in_err-c-2
-returns-in_err-c-2 c = λ d s i. refused c.in_err-c-2.was
+returns-in_err-c-2 c = λ d s i. refused c.from_residual-in_err-c-2.result _ c.from_residual-in_err-c-2.ensures.1
 
 pub format-requires : goal.format-requires
 format-requires c = tt

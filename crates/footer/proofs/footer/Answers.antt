@@ -12,7 +12,7 @@ returns-then-tally-eq0 c =
     λ s. gives refl (footer-none _ c.if-tally-eq0.true (cc)) (given s.none)
 
 pub returns-in_err-c : goal.returns-in_err-c
-returns-in_err-c c = λ s. refused c.in_err-c.was
+returns-in_err-c c = λ s. refused c.from_residual.result _ c.from_residual.ensures.1
 
 pub concat-requires : goal.concat-requires
 concat-requires c = tt

@@ -6,13 +6,13 @@ pub comma-requires : goal.comma-requires
 comma-requires c = tt
 
 pub returns-in_err-c : goal.returns-in_err-c
-returns-in_err-c c = λ s. refused c.in_err-c.was
+returns-in_err-c c = λ s. refused c.from_residual.result _ c.from_residual.ensures.1
 
 pub notes-requires : goal.notes-requires
 notes-requires c = tt
 
 pub returns-in_err-c-2 : goal.returns-in_err-c-2
-returns-in_err-c-2 c = λ s. refused c.in_err-c-2.was
+returns-in_err-c-2 c = λ s. refused c.from_residual-in_err-c-2.result _ c.from_residual-in_err-c-2.ensures.1
 
 pub blocked-requires : goal.blocked-requires
 blocked-requires c = tt

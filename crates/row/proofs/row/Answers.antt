@@ -14,7 +14,7 @@ pub leaf-requires : goal.leaf-requires
 leaf-requires c = tt
 
 pub returns-in_err-c : goal.returns-in_err-c
-returns-in_err-c c = λ s. refused c.in_err-c.was
+returns-in_err-c c = λ s. refused c.from_residual.result _ c.from_residual.ensures.1
 
 pub ended-made-requires : goal.ended-made-requires
 ended-made-requires c =

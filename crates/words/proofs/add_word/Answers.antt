@@ -6,13 +6,13 @@ pub append-requires : goal.append-requires
 append-requires c = tt
 
 pub returns-in_err-c : goal.returns-in_err-c
-returns-in_err-c c = λ d e i j. refused c.in_err-c.was
+returns-in_err-c c = λ d e i j. refused c.from_residual.result _ c.from_residual.ensures.1
 
 pub leaf-requires : goal.leaf-requires
 leaf-requires c = tt
 
 pub returns-in_err-c-2 : goal.returns-in_err-c-2
-returns-in_err-c-2 c = λ d e i j. refused c.in_err-c-2.was
+returns-in_err-c-2 c = λ d e i j. refused c.from_residual-in_err-c-2.result _ c.from_residual-in_err-c-2.ensures.1
 
 pub append-requires-2 : goal.append-requires-2
 append-requires-2 c = tt

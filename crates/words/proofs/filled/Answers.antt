@@ -36,7 +36,7 @@ pub add_word-requires : goal.add_word-requires
 add_word-requires c = tt
 
 pub returns-in_err-next : goal.returns-in_err-next
-returns-in_err-next c = λ i. refused c.in_err-next.was
+returns-in_err-next c = λ i. refused c.from_residual.result _ c.from_residual.ensures.1
 
 pub skip-at-requires-in-loop-at : goal.skip-at-requires-in-loop-at
 skip-at-requires-in-loop-at c = tt

@@ -7,7 +7,7 @@ pub columns-wide-requires : goal.columns-wide-requires
 columns-wide-requires c = tt
 
 pub returns-then-wide-gt65536 : goal.returns-then-wide-gt65536
-returns-then-wide-gt65536 c = refused refl
+returns-then-wide-gt65536 c = refused _ _ refl
 
 pub text-requires : goal.text-requires
 text-requires c = tt

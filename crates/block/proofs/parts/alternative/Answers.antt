@@ -4,6 +4,7 @@ use native.Mathlib.Omega.{arith}
 use Rattle.block.proofs.Splits.{split-inside, front_length}
 use Rattle.block.proofs.Splits.{split_asks₁, split_stop₁, split-front, split_asks₂, split_stop₂, split_middle}
 use Rattle.block.proofs.Splits.{split_asks₃, split_stop₃, split-wrapped, split_asks₄, split_stop₄, split-back, split_last}
+use Rattle.build.proofs.Handed.{handed_on}
 use Rattle.block.proofs.parts.alternative.Goals as goal
 
 pub slice_bounds-head-end : goal.slice_bounds-head-end
@@ -19,7 +20,8 @@ head-requires c =
 pub returns-in_err-c : goal.returns-in_err-c
 returns-in_err-c c =
     let args = c.args in
-    split_stop₁ c.requires.0 c.requires.1 args.nests.now args.split c.head.ensures c.in_err-c.was
+    rw (handed_on c.from_residual.result c.from_residual.ensures.1 c.in_err-c.was)
+    (split_stop₁ c.requires.0 c.requires.1 args.nests.now args.split c.head.ensures c.in_err-c.was)
 
 pub slice_bounds-bare-end : goal.slice_bounds-bare-end
 slice_bounds-bare-end c =
@@ -40,8 +42,9 @@ pub returns-in_err-c-2 : goal.returns-in_err-c-2
 returns-in_err-c-2 c =
     let front = split-front c.requires.0 c.requires.1 c.args.nests.now c.args.split c.head.ensures c.in_ok-c.was in
     let args = c.args in
-    split_stop₂ c.requires.0 c.requires.1 args.nests.now args.split front c.bare-asked.ensures
-    c.core.ensures c.in_err-c-2.was
+    rw (handed_on c.from_residual-in_err-c-2.result c.from_residual-in_err-c-2.ensures.1 c.in_err-c-2.was)
+    (split_stop₂ c.requires.0 c.requires.1 args.nests.now args.split front c.bare-asked.ensures
+    c.core.ensures c.in_err-c-2.was)
 
 pub offset_bounds-prefixes-split : goal.offset_bounds-prefixes-split
 offset_bounds-prefixes-split c =
@@ -64,10 +67,6 @@ wraps-requires c =
     let args = c.args in
     split_asks₃ c.requires.0 c.requires.1 args.nests.now args.split middle c.requires.2
 
-pub shape_of-table-in_default-third : goal.shape_of-table-in_default-third
-shape_of-table-in_default-third c =
-    c.wraps.auto.table ∙ c.core.auto.table ∙ c.head.auto.table
-
 pub returns-in_err-c-3 : goal.returns-in_err-c-3
 returns-in_err-c-3 c =
     let front = split-front c.requires.0 c.requires.1 c.args.nests.now c.args.split c.head.ensures c.in_ok-c.was in
@@ -75,8 +74,9 @@ returns-in_err-c-3 c =
     split_middle c.requires.0 c.requires.1 c.args.nests.now c.args.split front c.bare-asked.ensures c.core.ensures
     c.in_ok-c-2.was in
     let args = c.args in
-    split_stop₃ c.requires.0 c.requires.1 args.nests.now args.split middle c.wraps.ensures
-    c.in_err-c-3.was
+    rw (handed_on c.from_residual-in_err-c-3.result c.from_residual-in_err-c-3.ensures.1 c.in_err-c-3.was)
+    (split_stop₃ c.requires.0 c.requires.1 args.nests.now args.split middle c.wraps.ensures
+    c.in_err-c-3.was)
 
 pub slice_bounds-tail-end : goal.slice_bounds-tail-end
 slice_bounds-tail-end c =
@@ -94,10 +94,6 @@ tail-requires c =
     let args = c.args in
     split_asks₄ c.requires.0 c.requires.1 args.nests.now args.split wrapped
 
-pub shape_of-table-in_default-fourth : goal.shape_of-table-in_default-fourth
-shape_of-table-in_default-fourth c =
-    c.tail.auto.table ∙ c.wraps.auto.table ∙ c.core.auto.table ∙ c.head.auto.table
-
 pub returns-in_err-c-4 : goal.returns-in_err-c-4
 returns-in_err-c-4 c =
     let front = split-front c.requires.0 c.requires.1 c.args.nests.now c.args.split c.head.ensures c.in_ok-c.was in
@@ -107,8 +103,9 @@ returns-in_err-c-4 c =
     let wrapped =
     split-wrapped c.requires.0 c.requires.1 c.args.nests.now c.args.split middle c.wraps.ensures c.in_ok-c-3.was in
     let args = c.args in
-    split_stop₄ c.requires.0 c.requires.1 args.nests.now args.split wrapped c.tail.ensures
-    c.in_err-c-4.was
+    rw (handed_on c.from_residual-in_err-c-4.result c.from_residual-in_err-c-4.ensures.1 c.in_err-c-4.was)
+    (split_stop₄ c.requires.0 c.requires.1 args.nests.now args.split wrapped c.tail.ensures
+    c.in_err-c-4.was)
 
 pub shape_of-table : goal.shape_of-table
 shape_of-table c =

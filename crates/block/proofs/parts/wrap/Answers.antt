@@ -1,11 +1,13 @@
 -- `wrap`, part by part.
 use Rattle.block.proofs.Groups.{wrap_stop₁, wrap_asks₂, wrap_stop₂, wrap_last}
+use Rattle.build.proofs.Handed.{handed_on}
 use Rattle.block.proofs.parts.wrap.Goals as goal
 
 pub returns-in_err-c : goal.returns-in_err-c
 returns-in_err-c c =
     let args = c.args in
-    wrap_stop₁ c.requires.0 c.requires.1 c.requires.2 c.requires.3 args.flag c.append.ensures c.in_err-c.was
+    rw (handed_on c.from_residual.result c.from_residual.ensures.1 c.in_err-c.was)
+    (wrap_stop₁ c.requires.0 c.requires.1 c.requires.2 c.requires.3 args.flag c.append.ensures c.in_err-c.was)
 
 pub nested-requires : goal.nested-requires
 nested-requires c =
@@ -16,8 +18,9 @@ nested-requires c =
 pub returns-in_err-c-2 : goal.returns-in_err-c-2
 returns-in_err-c-2 c =
     let args = c.args in
-    wrap_stop₂ c.requires.0 c.requires.1 c.requires.2 c.requires.3 args.flag c.append.ensures
-    c.in_ok-c.was c.nested.ensures c.in_err-c-2.was
+    rw (handed_on c.from_residual-in_err-c-2.result c.from_residual-in_err-c-2.ensures.1 c.in_err-c-2.was)
+    (wrap_stop₂ c.requires.0 c.requires.1 c.requires.2 c.requires.3 args.flag c.append.ensures
+    c.in_ok-c.was c.nested.ensures c.in_err-c-2.was)
 
 pub returns : goal.returns
 returns c =

@@ -2,6 +2,7 @@ use mathlib.Core.Path.{◌∙◌}
 use native.Mathlib.Omega.{arith}
 use Rattle.build.proofs.Stand.{same-words}
 use Rattle.block.proofs.Loops.{wrap-start, wrap_asks, wrap-stop, wrap-next, wrap-end}
+use Rattle.build.proofs.Handed.{handed_on}
 use Rattle.block.proofs.parts.wraps.Goals as goal
 
 pub loop-i-init : goal.loop-i-init
@@ -30,15 +31,12 @@ wrap-requires c =
     wrap_asks c.requires.0 c.requires.1 args.n c.requires.2 args.prefixes.now args.nests.now c.requires.3 c.requires.4
     c.loop-i-test.true c.loop-i.invariant
 
-pub shape_of-table-in_default : goal.shape_of-table-in_default
-shape_of-table-in_default c =
-    c.wrap.auto.table ∙ same-words c.loop-i.invariant.place.stands
-
 pub returns-in_err-next : goal.returns-in_err-next
 returns-in_err-next c =
     let args = c.args in
-    wrap-stop c.requires.0 c.requires.1 args.n c.requires.2 args.prefixes.now args.nests.now c.requires.3 c.requires.4
-    c.loop-i-test.true c.loop-i.invariant c.wrap.ensures c.in_err-next.was
+    rw (handed_on c.from_residual.result c.from_residual.ensures.1 c.in_err-next.was)
+    (wrap-stop c.requires.0 c.requires.1 args.n c.requires.2 args.prefixes.now args.nests.now c.requires.3 c.requires.4
+    c.loop-i-test.true c.loop-i.invariant c.wrap.ensures c.in_err-next.was)
 
 pub loop-i-smaller : goal.loop-i-smaller
 loop-i-smaller c =

@@ -15,7 +15,7 @@ pub leaf-requires : goal.leaf-requires
 leaf-requires c = tt
 
 pub returns-in_err-c : goal.returns-in_err-c
-returns-in_err-c c = λ d s i. refused c.in_err-c.was
+returns-in_err-c c = λ d s i. refused c.from_residual.result _ c.from_residual.ensures.1
 
 pub concat-requires : goal.concat-requires
 concat-requires c = tt

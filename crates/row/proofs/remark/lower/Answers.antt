@@ -7,13 +7,13 @@ pub filled-requires : goal.filled-requires
 filled-requires c = tt
 
 pub returns-in_err-c : goal.returns-in_err-c
-returns-in_err-c c = λ s. refused c.in_err-c.was
+returns-in_err-c c = λ s. refused c.from_residual.result _ c.from_residual.ensures.1
 
 pub append-requires : goal.append-requires
 append-requires c = tt
 
 pub returns-in_err-c-2 : goal.returns-in_err-c-2
-returns-in_err-c-2 c = λ s. refused c.in_err-c-2.was
+returns-in_err-c-2 c = λ s. refused c.from_residual-in_err-c-2.result _ c.from_residual-in_err-c-2.ensures.1
 
 pub nest-requires : goal.nest-requires
 nest-requires c = tt
