@@ -1,12 +1,12 @@
 -- Lists of operands, joined, from what is asked to the loop's turns: any list, and `concat`.
 --     join-made                              the whole, whatever list it joins
---     concat-is .. concat-end                the list as it stands
+--     concat-made .. concat-end              the list as it stands
 -- Assumes nothing.
 use Prim.Native.Nat.{ℕ, suc, ◌+◌, ◌-◌, ◌*◌, ◌≤◌, ◌<◌}
 use native.Mathlib.Omega.{arith}
 use native.Mathlib.Numerals.{add-one}
-use native.Mathlib.Nat.{add-zero, not-suc-le-zero}
-use mathlib.Core.Path.{◌≡◌, refl, sym, ap, ◌∙◌}
+use native.Mathlib.Nat.{add-zero}
+use mathlib.Core.Path.{◌≡◌, refl, sym, ◌∙◌}
 use mathlib.Core.Bool.{Bool, true}
 use mathlib.Core.List.{List, [], ◌∷◌}
 use lib.ListN.{length, get_or, take, drop, drop_of_length-le}
@@ -17,7 +17,7 @@ use Rattle.std.specs.Prelude.{Ok, Err}
 use Rattle.build.specs.Draft.{Draft, Built, counted}
 use Rattle.build.specs.Parts.{joined, concat}
 use Rattle.build.specs.Solid.{solid}
-use Rattle.build.specs.Outcome.{Made, Asked, asked, answered, outcome, onward, made}
+use Rattle.build.specs.Outcome.{Made, asked, answered, outcome, onward, made}
 use Rattle.build.specs.Constructors.{has_all, nil_made, append_made, concat_made}
 use Rattle.build.proofs.Grow.{joined-grown}
 use Rattle.build.proofs.Joins.{Below, below_of, joined-counts, Along, along-start, join_all, join-on, join-whole}
@@ -59,31 +59,14 @@ module _ (c : Counts) (table text : List ℕ) (present : Bool) (whole : Draft �
 
 -- ---- the list as it stands
 
-module _ (ns : List ℕ) where
-  pub head-is : 0 < length ns → ns ≡ get_or ns 0 0 ∷ drop 1 ns
-  head-is h = drop-cons ns 0 0 h
-
-  pub concat-is : (s : Draft) → 0 < length ns → joined s (get_or ns 0 0) (drop 1 ns) ≡ concat s ns
-  unfolding concat
-  concat-is s h = by ns h
-    where
-      by : (xs : List ℕ) → 0 < length xs → joined s (get_or xs 0 0) (drop 1 xs) ≡ concat s xs
-      by [] h = absurd (not-suc-le-zero h)
-      by (x ∷ xs) h = refl
-
-module _ (c : Counts) (table text ns : List ℕ) (some : 0 < length ns) where
-  concat-operands : has_all c ns ≡ true → Below c.nodes (get_or ns 0 0 ∷ drop 1 ns)
-  concat-operands e = rw (head-is ns some) at (below_of c ns e)
-
-  abbrev concat-asked : ℕ → Asked
-  concat-asked joins = asked c (length table) (length text) (has_all c ns) true true (c.nodes + joins) (c.bytes + 0)
-
-  pub concat-made : {m : Made} → m ≡ answered (concat-asked (solid (take (c.nodes * 4) table) ns - 1)) (Ok (c, record { 0 = get_or ns 0 0 }))
-      → join_all m table text (drop 1 ns) ≡ concat_made c table text ns
-  unfolding counted
+module _ (c : Counts) (table text : List ℕ) {ns : List ℕ} {first : ℕ} {rest : List ℕ} (is : ns ≡ first ∷ rest) where
+  pub concat-made : {m : Made}
+      → m ≡ answered (asked c (length table) (length text) (has_all c ns) true true (c.nodes + (solid (take (c.nodes * 4) table) ns - 1)) (c.bytes + 0)) (Ok (c, record { 0 = first }))
+      → join_all m table text rest ≡ concat_made c table text ns
+  unfolding counted concat
   concat-made e =
-      let head = ap (λ (l : List ℕ). answered (concat-asked (solid (take (c.nodes * 4) table) l - 1)) (Ok (c, record { 0 = get_or ns 0 0 }))) (head-is ns some) in
-      join-made c table text (has_all c ns) (λ s. concat s ns) (get_or ns 0 0) (drop 1 ns) (concat-is ns (counted c table text) some) concat-operands (e ∙ head)
+      rw is
+      (join-made c table text (has_all c (first ∷ rest)) (λ s. concat s (first ∷ rest)) first rest refl (below_of c (first ∷ rest)) (rw is at e))
 
 -- of none one Nil
 pub concat-none : (c : Counts) (table text ns : List ℕ) → length ns ≡ 0 → nil_made c table text ≡ concat_made c table text ns

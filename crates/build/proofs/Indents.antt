@@ -130,10 +130,10 @@ module _ (c : Counts) (table letters : List ℕ) (n by : ℕ) where
       let e = indent-counts s₀ n by (start c table letters h b).whole (ltb-true n c.nodes p) in
       (ap (λ (x : Counts). x.nodes) e, ap (λ (x : Counts). x.bytes) e)
 
-  pub indent-refused : {r : Asked} → r ≡ indent-asked → {why : Why} → r ≡ Err why → outcome (Err why) table letters ≡ indent_made c table letters n by
-  indent-refused is d = refuse c table letters (has c n) (leb by 1000) true (λ s. indent s n by) _ _ right-counts _ (sym is ∙ d)
+  pub indent-refused : {why : Why} → Err why ≡ indent-asked → outcome (Err why) table letters ≡ indent_made c table letters n by
+  indent-refused d = refuse c table letters (has c n) (leb by 1000) true (λ s. indent s n by) _ _ right-counts _ (sym d)
 
-  module _ {r : Asked} (is : r ≡ indent-asked) (told : r ≡ Ok tt) where
+  module _ (granted : Ok tt ≡ indent-asked) where
     grown₁ : Grown s₀ s₁.draft
     grown₁ = text-grown s₀ (replicate by 32) by
 
@@ -145,7 +145,7 @@ module _ (c : Counts) (table letters : List ℕ) (n by : ℕ) where
     grown₃ = hang-grown s₂.draft s₂.node by 0
 
     begun : Begun c table letters (has c n) (leb by 1000) true (λ s. indent s n by)
-    begun = begin c table letters (has c n) (leb by 1000) true (λ s. indent s n by) _ _ right-counts (then grown₁ (then grown₂ grown₃)) (sym is ∙ told)
+    begun = begin c table letters (has c n) (leb by 1000) true (λ s. indent s n by) _ _ right-counts (then grown₁ (then grown₂ grown₃)) (sym granted)
 
     pub indent_by : by ≤ 1000
     indent_by = leb-true by 1000 begun.facts.amounts

@@ -10,8 +10,7 @@ use native.Mathlib.Omega.{arith}
 use mathlib.Core.Path.{◌≡◌, refl, sym, ap, ap₂, ◌∙◌, subst}
 use mathlib.Core.Bool.{Bool, true, false, ◌&&◌}
 use mathlib.Core.List.{List, [], ◌∷◌}
-use lib.ListN.{length, take, drop, length-drop}
-use lib.Seq.{take_all}
+use lib.ListN.{length}
 use borrow.Author.Tests.{ltb-true, lt-ltb}
 use Rattle.choice.specs.Pick.{pick}
 use Rattle.table.specs.declared.NodeNo.{NodeNo}
@@ -173,13 +172,6 @@ module _ {c₀ : Counts} {table₀ text₀ : List ℕ} {present amount right : B
       let went = along_went begun a b.0 {r = x.made} {table' = x.table} {text' = x.text} told in
       let next = along-next begun a b.0 {r = x.made} {table' = x.table} {text' = x.text} told went.answer in
       ap (λ (m : Made). join_all m x.table x.text ks) went.answer ∙ join_along ks b.1 next
-
--- all but the first
-abbrev pub rest_of : List ℕ → List ℕ
-rest_of ns = take (length ns - 1) (drop 1 ns)
-
-pub rest_of-is : (ns : List ℕ) → rest_of ns ≡ drop 1 ns
-rest_of-is ns = take_all (length ns - 1) (drop 1 ns) (simp length-drop (omega arith))
 
 -- at the head of either loop: what is left to join comes to the whole
 pub record Joining (text : List ℕ) (whole : Outcome) (long : ℕ) (table : List ℕ) (made : Counts × NodeNo) (left : List ℕ) : Type 0 where

@@ -1,6 +1,6 @@
 -- One node, or an older one: what is asked, what is answered and what is left come to the definition.
 --     older-settled, given_back              an older node, with more asked for or by itself
---     node_denied .. node_granted, node_alone    one node, the first of so many or by itself
+--     node-room, node_granted, node_alone    one node, the first of so many or by itself
 --     by-operands                            the test of operands as the code has it
 --     append-.., group-..                    Append and Group, by the case that the code takes
 -- Assumes nothing.
@@ -14,7 +14,6 @@ use lib.ListN.{length, take}
 use Rattle.table.specs.declared.NodeNo.{NodeNo}
 use Rattle.table.specs.declared.Words.{Words}
 use Rattle.build.specs.declared.Counts.{Counts}
-use Rattle.build.specs.declared.Why.{Why}
 use Rattle.std.specs.Prelude.{Ok, Err}
 use Rattle.build.specs.declared.Asks.{Asks}
 use Rattle.build.specs.Draft.{Draft, Built, counts_of, counted, over, older, add}
@@ -68,19 +67,13 @@ module _ (c : Counts) (table text : List ℕ) (asks : Asks) (words : Words) wher
   abbrev new : Built
   new = add (counted c table text) words.kind words.a words.b words.c
 
-  pub node_denied : {r : Asked} → r ≡ node-asked → {why : Why} → r ≡ Err why → outcome (Err why) table text ≡ settled node-asked new table text
-  node_denied is d = rw (sym is ∙ d) refl
-
-  module _ (some : 0 < asks.nodes) {r : Asked} (is : r ≡ node-asked) (told : r ≡ Ok tt) where
-    g : node-asked ≡ Ok tt
-    g = sym is ∙ told
-
+  module _ (some : 0 < asks.nodes) (granted : Ok tt ≡ node-asked) where
     abbrev then-counts : Counts
     then-counts = counts_of (c.nodes + asks.nodes) (c.bytes + asks.bytes)
 
     node_allowed : Allowed c then-counts (length table) (length text) asks.present asks.amount asks.text
     node_allowed =
-        allowed c then-counts (length table) (length text) asks.present asks.amount asks.text (omega arith) (omega arith) g
+        allowed c then-counts (length table) (length text) asks.present asks.amount asks.text (omega arith) (omega arith) (sym granted)
 
     pub node-room : (c.nodes < 1024) × (c.nodes * 4 + 3 < length table)
     node-room =
@@ -95,7 +88,7 @@ module _ (c : Counts) (table text : List ℕ) (asks : Asks) (words : Words) wher
     unfolding counted added
     node_granted e t =
         let u = over-front c.bytes text node_allowed.counted-bytes in
-        rw g (λ i. outcome (e i) (t i) (u i))
+        rw (← granted) (λ i. outcome (e i) (t i) (u i))
 
 -- ---- by the case that the code takes
 

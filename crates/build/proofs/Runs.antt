@@ -1,44 +1,31 @@
 -- Facts on lists that the loops and stores ask for.
---     all-next, all-not, all_end     a test of every element, from one index to the next
---     count_next, count_skip, count-end   a count of elements, the same way
+--     solid_is                       how many are no Nil, as the library counts
 --     word_out, words-put            a word that is not counted; four words put at the end of the counted ones
 -- Assumes nothing.
 use Prim.Native.Nat.{ℕ, suc, ◌+◌, ◌≤◌, ◌<◌}
 use native.Mathlib.Omega.{arith}
 use native.Mathlib.Numerals.{add-one, add-two, add-three}
 use mathlib.Core.Path.{◌≡◌, refl, sym, ap, ◌∙◌}
-use mathlib.Core.Bool.{Bool, true, false, ◌&&◌}
+use mathlib.Core.Bool.{Bool, true, false}
 use mathlib.Core.List.{List, [], ◌∷◌, ◌++◌}
-use lib.ListN.{length, get_or, take, drop, set, length-append, length-take, length-drop, drop_of_length-le, get_or-eq_default}
-use lib.Seq.{drop-cons, sets-eq}
+use lib.ListN.{length, get_or, take, drop, set, length-append, length-take, length-drop, get_or-eq_default}
+use lib.Seq.{sets-eq}
 use lib.Dec.{eqb}
 use Rattle.table.specs.Node.{word}
 use Rattle.build.specs.Draft.{over}
+use Rattle.choice.specs.Pick.{pick}
+use Rattle.std.proofs.Common.{count_by, cond, not}
+use Rattle.std.proofs.lemmas.List.Recursion.{is_count_by}
 use Rattle.build.specs.Solid.{solid}
 
--- f tests every element of a list by p
-module _ (p : ℕ → Bool) (f : List ℕ → Bool) (none : f [] ≡ true) (some : (x : ℕ) (xs : List ℕ) → f (x ∷ xs) ≡ p x && f xs) (xs : List ℕ) where
-  pub all-next : (i : ℕ) → i < length xs → p (get_or xs i 0) ≡ true → f (drop i xs) ≡ f (drop (i + 1) xs)
-  all-next i h e = ap f (drop-cons xs i 0 h) ∙ some (get_or xs i 0) (drop (suc i) xs) ∙ rw (e, add-one) refl
-
-  pub all-not : (i : ℕ) → i < length xs → p (get_or xs i 0) ≡ false → f (drop i xs) ≡ false
-  all-not i h e = ap f (drop-cons xs i 0 h) ∙ some (get_or xs i 0) (drop (suc i) xs) ∙ rw e refl
-
-  pub all_end : (i : ℕ) → length xs ≤ i → f (drop i xs) ≡ true
-  all_end i h = ap f (drop_of_length-le xs h) ∙ none
-
-module _ (table ns : List ℕ) where
-  pub count_next : (i : ℕ) → i < length ns → eqb (word table (get_or ns i 0) 0) 0 ≡ false → solid table (drop i ns) ≡ suc (solid table (drop (i + 1) ns))
-  unfolding solid
-  count_next i h e = ap (solid table) (drop-cons ns i 0 h) ∙ rw (e, add-one) refl
-
-  pub count_skip : (i : ℕ) → i < length ns → eqb (word table (get_or ns i 0) 0) 0 ≡ true → solid table (drop i ns) ≡ solid table (drop (i + 1) ns)
-  unfolding solid
-  count_skip i h e = ap (solid table) (drop-cons ns i 0 h) ∙ rw (e, add-one) refl
-
-  pub count-end : (i : ℕ) → length ns ≤ i → solid table (drop i ns) ≡ 0
-  unfolding solid
-  count-end i h = ap (solid table) (drop_of_length-le ns h)
+-- solid as the library counts
+pub solid_is : (table ns : List ℕ) → solid table ns ≡ count_by (λ n. not (eqb (word table n 0) 0)) ns
+unfolding solid
+solid_is table = is_count_by (solid table) (λ n. not (eqb (word table n 0) 0)) refl (λ n ns. by (eqb (word table n 0) 0) (solid table ns))
+  where
+    by : (q : Bool) (k : ℕ) → pick q k (suc k) ≡ cond (not q) (1 + k) k
+    by true k = refl
+    by false k = omega arith
 
 -- a word behind the counted ones, or behind the table
 pub word_out : (table : List ℕ) (m at : ℕ) → m ≤ at → 0 ≡ get_or (take m table) at 0

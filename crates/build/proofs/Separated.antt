@@ -3,11 +3,11 @@
 use Prim.Native.Nat.{ℕ, suc, ◌+◌, ◌-◌, ◌*◌, ◌≤◌, ◌<◌}
 use native.Mathlib.Omega.{arith}
 use native.Mathlib.Numerals.{add-one}
-use native.Mathlib.Nat.{suc-mul, not-suc-le-zero}
-use mathlib.Core.Path.{◌≡◌, refl, sym, ap, ◌∙◌}
+use native.Mathlib.Nat.{suc-mul}
+use mathlib.Core.Path.{◌≡◌, refl, ◌∙◌}
 use mathlib.Core.Bool.{Bool, true, false, ◌&&◌}
 use mathlib.Core.List.{List, [], ◌∷◌}
-use lib.ListN.{length, get_or, take, drop, length-drop, drop_of_length-le}
+use lib.ListN.{length, get_or, take, drop, drop_of_length-le}
 use lib.Seq.{drop-cons}
 use lib.Dec.{eqb}
 use borrow.Author.Tests.{ltb-true}
@@ -16,13 +16,13 @@ use Rattle.table.specs.Node.{word}
 use Rattle.choice.proofs.Tests.{and-true}
 use Rattle.build.specs.declared.Counts.{Counts}
 use Rattle.std.specs.Prelude.{Ok}
-use Rattle.build.specs.Draft.{Draft, counted}
-use Rattle.build.specs.Parts.{nil, joined, separated, intersperse}
+use Rattle.build.specs.Draft.{counted}
+use Rattle.build.specs.Parts.{nil, separated, intersperse}
 use Rattle.build.specs.Solid.{solid}
 use Rattle.build.specs.Outcome.{Made, Asked, asked, answered, outcome, onward, made}
 use Rattle.build.specs.Constructors.{has, has_all, append_made, intersperse_made}
 use Rattle.build.proofs.Joins.{Below, below_of, join_all, join-on}
-use Rattle.build.proofs.Concats.{join-made, head-is}
+use Rattle.build.proofs.Concats.{join-made}
 
 -- 0 for a Nil, else 1
 abbrev one : List ℕ → ℕ → ℕ
@@ -70,42 +70,34 @@ unfolding separated
 below-separated n [] h b = tt
 below-separated n (m ∷ ns) h b = (h, (b.0, below-separated n ns h b.1))
 
-module _ (n : ℕ) (ns : List ℕ) (some : 0 < length ns) where
-  pub intersperse-is : (s : Draft) → joined s (get_or ns 0 0) (separated n (drop 1 ns)) ≡ intersperse s ns n
-  unfolding intersperse
-  intersperse-is s = by ns some
-    where
-      by : (xs : List ℕ) → 0 < length xs → joined s (get_or xs 0 0) (separated n (drop 1 xs)) ≡ intersperse s xs n
-      by [] h = absurd (not-suc-le-zero h)
-      by (x ∷ xs) h = refl
+-- the nodes and their separators
+solid-all : (table : List ℕ) (n first : ℕ) (rest : List ℕ)
+    → solid table (first ∷ separated n rest) ≡ solid table (first ∷ rest) + (length (first ∷ rest) - 1) * solid table (n ∷ [])
+solid-all table n first rest =
+    let e = solid-cons table first (separated n rest) in
+    let f = solid-separated table n rest in
+    let g = solid-cons table first rest in
+    let k : length (first ∷ rest) - 1 ≡ length rest = omega arith in
+    rw k (omega arith)
 
-  -- the nodes and their separators
-  solid-all : (table : List ℕ) → solid table (get_or ns 0 0 ∷ separated n (drop 1 ns)) ≡ solid table ns + (length ns - 1) * solid table (n ∷ [])
-  solid-all table =
-      let e = solid-cons table (get_or ns 0 0) (separated n (drop 1 ns)) in
-      let f = solid-separated table n (drop 1 ns) in
-      let g = ap (solid table) (head-is ns some) ∙ solid-cons table (get_or ns 0 0) (drop 1 ns) in
-      let h = ap (λ (k : ℕ). k * one table n) (length-drop 1 ns) in
-      omega arith
+module _ (c : Counts) (table text : List ℕ) {ns : List ℕ} {first : ℕ} {rest : List ℕ} (is : ns ≡ first ∷ rest) (n : ℕ) where
+  abbrev intersperse-asked : ℕ → Asked
+  intersperse-asked all = asked c (length table) (length text) (has c n && has_all c ns) true true (c.nodes + (all - 1)) (c.bytes + 0)
 
-  module _ (c : Counts) (table text : List ℕ) where
-    abbrev intersperse-asked : ℕ → Asked
-    intersperse-asked all = asked c (length table) (length text) (has c n && has_all c ns) true true (c.nodes + (all - 1)) (c.bytes + 0)
+  operands : has c n && has_all c (first ∷ rest) ≡ true → Below c.nodes (first ∷ separated n rest)
+  operands e =
+      let p = and-true (has c n) (has_all c (first ∷ rest)) e in
+      let b = below_of c (first ∷ rest) p.1 in
+      (b.0, below-separated n rest (ltb-true n c.nodes p.0) b.1)
 
-    operands : has c n && has_all c ns ≡ true → Below c.nodes (get_or ns 0 0 ∷ separated n (drop 1 ns))
-    operands e =
-        let p = and-true (has c n) (has_all c ns) e in
-        let b : Below c.nodes (get_or ns 0 0 ∷ drop 1 ns) = rw (head-is ns some) at (below_of c ns p.1) in
-        (b.0, below-separated n (drop 1 ns) (ltb-true n c.nodes p.0) b.1)
-
-    pub intersperse-made : {m : Made}
-        → m ≡ answered (intersperse-asked (solid (take (c.nodes * 4) table) ns + (length ns - 1) * solid (take (c.nodes * 4) table) (n ∷ []))) (Ok (c, record { 0 = get_or ns 0 0 }))
-        → join_all m table text (separated n (drop 1 ns)) ≡ intersperse_made c table text ns n
-    unfolding counted
-    intersperse-made e =
-        let all = ap (λ (k : ℕ). answered (intersperse-asked k) (Ok (c, record { 0 = get_or ns 0 0 }))) (sym (solid-all (take (c.nodes * 4) table))) in
-        join-made c table text (has c n && has_all c ns) (λ s. intersperse s ns n) (get_or ns 0 0) (separated n (drop 1 ns)) (intersperse-is (counted c table text)) operands
-        (e ∙ all)
+  pub intersperse-made : {m : Made}
+      → m ≡ answered (intersperse-asked (solid (take (c.nodes * 4) table) ns + (length ns - 1) * solid (take (c.nodes * 4) table) (n ∷ []))) (Ok (c, record { 0 = first }))
+      → join_all m table text (separated n rest) ≡ intersperse_made c table text ns n
+  unfolding counted intersperse
+  intersperse-made e =
+      rw is
+      (join-made c table text (has c n && has_all c (first ∷ rest)) (λ s. intersperse s (first ∷ rest) n) first (separated n rest) refl operands
+      (rw solid-all (rw is at e)))
 
 -- one turn of the loop: the separator, then the next node
 pub intersperse-turn : (m₁ m₂ : Made) (table₁ table₂ text : List ℕ) {m₃ : Made} {table₃ : List ℕ} (n : ℕ) (ns : List ℕ) (i : ℕ) → i < length ns

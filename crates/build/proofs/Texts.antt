@@ -65,58 +65,57 @@ module _ (c : Counts) (table letters bytes : List ℕ) (columns : ℕ) {right : 
   abbrev text-asked : Asked
   text-asked = asked c (length table) (length letters) true true right (c.nodes + 1) (c.bytes + length bytes)
 
-  module _ {r : Asked} (is : r ≡ text-asked) where
-    pub text_denied : {why : Why} → r ≡ Err why → outcome (Err why) table letters ≡ text_made c table letters bytes columns
-    text_denied d =
-        let nodes = ap (λ (x : Counts). x.nodes) counts_are in
-        let used = ap (λ (x : Counts). x.bytes) counts_are in
-        by_test (made_denied c table letters true true right (λ s. text s bytes columns) _ _ _ nodes used (sym is ∙ d))
+  pub text_denied : {why : Why} → Err why ≡ text-asked → outcome (Err why) table letters ≡ text_made c table letters bytes columns
+  text_denied d =
+      let nodes = ap (λ (x : Counts). x.nodes) counts_are in
+      let used = ap (λ (x : Counts). x.bytes) counts_are in
+      by_test (made_denied c table letters true true right (λ s. text s bytes columns) _ _ _ nodes used (sym d))
 
-    module _ (told : r ≡ Ok tt) where
-      facts : Allowed c after (length table) (length letters) true true right
-      facts = allowed c after (length table) (length letters) true true right (omega arith) (omega arith) (sym is ∙ told)
+  module _ (granted : Ok tt ≡ text-asked) where
+    facts : Allowed c after (length table) (length letters) true true right
+    facts = allowed c after (length table) (length letters) true true right (omega arith) (omega arith) (sym granted)
 
-      pub text-node-room : (c.nodes < 1024) × (c.nodes * 4 + 3 < length table)
-      text-node-room =
-          let h = facts.room.nodes in
-          let l = h.limited (omega arith) in
-          let i = h.inside (omega arith) in
-          (omega arith, omega arith)
+    pub text-node-room : (c.nodes < 1024) × (c.nodes * 4 + 3 < length table)
+    text-node-room =
+        let h = facts.room.nodes in
+        let l = h.limited (omega arith) in
+        let i = h.inside (omega arith) in
+        (omega arith, omega arith)
 
-      pub text_byte-room : (length bytes ≡ 0 → ⊥) → (c.bytes + length bytes ≤ 65536) × (c.bytes + length bytes ≤ length letters)
-      text_byte-room some =
-          let h = facts.room.used in
-          let n : c.bytes < c.bytes + length bytes = let l : 0 < length bytes = omega (arith, some) in omega arith in
-          (h.limited n, h.inside n)
+    pub text_byte-room : (length bytes ≡ 0 → ⊥) → (c.bytes + length bytes ≤ 65536) × (c.bytes + length bytes ≤ length letters)
+    text_byte-room some =
+        let h = facts.room.used in
+        let n : c.bytes < c.bytes + length bytes = let l : 0 < length bytes = omega (arith, some) in omega arith in
+        (h.limited n, h.inside n)
 
-      text-is : {r : Outcome} (b : Built) → text s₀ bytes columns ≡ b → r ≡ added b table letters → r ≡ text_made c table letters bytes columns
-      text-is b e o =
-          let n = sym (ap (λ (x : Built). x.draft.counts) e) ∙ counts_are in
-          by_test (o ∙ sym (made_granted c table letters true true right (λ s. text s bytes columns) b e (rw n (sym is ∙ told))))
+    text-is : {r : Outcome} (b : Built) → text s₀ bytes columns ≡ b → r ≡ added b table letters → r ≡ text_made c table letters bytes columns
+    text-is b e o =
+        let n = sym (ap (λ (x : Built). x.draft.counts) e) ∙ counts_are in
+        by_test (o ∙ sym (made_granted c table letters true true right (λ s. text s bytes columns) b e (rw n (sym granted))))
 
-      pub text-empty : length bytes ≡ 0
-          → {m : Made} {table' : List ℕ} → m ≡ Ok (counts_of (c.nodes + 1) c.bytes, record { 0 = c.nodes })
-          → table' ≡ over (take (c.nodes * 4) table ++ (0 ∷ 0 ∷ 0 ∷ 0 ∷ [])) table
-          → outcome m table' letters ≡ text_made c table letters bytes columns
-      unfolding counted added
-      text-empty z e t =
-          let u = over-front c.bytes letters facts.counted-bytes in
-          text-is (nil s₀) (text-none s₀ bytes columns (eq-eqb (length bytes) 0 z)) (λ i. outcome (e i) (t i) (u i))
+    pub text-empty : length bytes ≡ 0
+        → {m : Made} {table' : List ℕ} → m ≡ Ok (counts_of (c.nodes + 1) c.bytes, record { 0 = c.nodes })
+        → table' ≡ over (take (c.nodes * 4) table ++ (0 ∷ 0 ∷ 0 ∷ 0 ∷ [])) table
+        → outcome m table' letters ≡ text_made c table letters bytes columns
+    unfolding counted added
+    text-empty z e t =
+        let u = over-front c.bytes letters facts.counted-bytes in
+        text-is (nil s₀) (text-none s₀ bytes columns (eq-eqb (length bytes) 0 z)) (λ i. outcome (e i) (t i) (u i))
 
-      -- the bytes are put behind those that stand
-      pub text-full : (length bytes ≡ 0 → ⊥)
-          → {m : Made} {table' letters' : List ℕ} → m ≡ Ok (after, record { 0 = c.nodes })
-          → table' ≡ over (take (c.nodes * 4) table ++ (6 ∷ c.bytes ∷ length bytes ∷ columns ∷ [])) table
-          → letters' ≡ put letters c.bytes (take (length bytes) bytes)
-          → outcome m table' letters' ≡ text_made c table letters bytes columns
-      unfolding counted added put
-      text-full some e t l =
-          let size : length (take c.bytes letters ++ bytes) ≡ c.bytes + length bytes =
-          simp (length-append, length-take) (let b = facts.counted-bytes in omega arith) in
-          let whole = ap (λ (x : List ℕ). take c.bytes letters ++ x ++ drop (c.bytes + length x) letters) (take-length bytes) in
-          let u = l ∙ whole ∙ ap (λ (n : ℕ). take c.bytes letters ++ bytes ++ drop n letters) (sym size) in
-          text-is (add (write s₀ bytes) 6 c.bytes (length bytes) columns) (text-some s₀ bytes columns (ne_eqb (length bytes) 0 some))
-          (λ i. outcome (e i) (t i) (u i))
+    -- the bytes are put behind those that stand
+    pub text-full : (length bytes ≡ 0 → ⊥)
+        → {m : Made} {table' letters' : List ℕ} → m ≡ Ok (after, record { 0 = c.nodes })
+        → table' ≡ over (take (c.nodes * 4) table ++ (6 ∷ c.bytes ∷ length bytes ∷ columns ∷ [])) table
+        → letters' ≡ put letters c.bytes (take (length bytes) bytes)
+        → outcome m table' letters' ≡ text_made c table letters bytes columns
+    unfolding counted added put
+    text-full some e t l =
+        let size : length (take c.bytes letters ++ bytes) ≡ c.bytes + length bytes =
+        simp (length-append, length-take) (let b = facts.counted-bytes in omega arith) in
+        let whole = ap (λ (x : List ℕ). take c.bytes letters ++ x ++ drop (c.bytes + length x) letters) (take-length bytes) in
+        let u = l ∙ whole ∙ ap (λ (n : ℕ). take c.bytes letters ++ bytes ++ drop n letters) (sym size) in
+        text-is (add (write s₀ bytes) 6 c.bytes (length bytes) columns) (text-some s₀ bytes columns (ne_eqb (length bytes) 0 some))
+        (λ i. outcome (e i) (t i) (u i))
 
 -- ---- so many of a thousand blanks
 

@@ -6,8 +6,8 @@ ghost use Rattle.build.specs.Outcome.{asked_for, asks_for, outcome, first_made};
 ghost use Rattle.build.specs.Constructors.{has, text_made, space_made, line_made, line₀_made};
 ghost use Rattle.build.specs.Constructors.{softline_made, softline₀_made, hang_made, indent_made};
 
-use crate::{Asks, Counts, Made, Why};
-use table::{Column, HARDLINE, Indent, NodeNo, Words};
+use crate::{Asks, Counts, Made, Why, words_of};
+use table::{Column, HARDLINE, Indent, NodeNo};
 
 impl Counts {
     pub fn space(self, table: &mut [u32], text: &mut [u8]) -> Made
@@ -24,43 +24,27 @@ impl Counts {
             ≡ first_made self table.old text.old (asks_for true true nodes 1) line }
     {
         let asks = Asks {
-            present: true,
-            amount: true,
-            text: true,
-            nodes: nodes,
             bytes: 1,
+            ..Asks::of(true, nodes)
         };
-        let words = Words {
-            kind: HARDLINE,
-            a: 0,
-            b: 0,
-            c: 0,
-        };
-        let (c, broken) = self.node(table, text, asks, words)?;
+        let (c, broken) = self.node(table, text, asks, words_of(HARDLINE, 0, 0, 0))?;
         let (c, flat) = c.space(table, text)?;
         c.flat_alt(table, text, broken, flat)
     }
 
     // The same with a Nil for the blank.
+    // kept: one function for both would need the text lent to what stands flat and to FlatAlt at once; `line_` lends it as `&` only.
     fn broken_or_nil(self, table: &mut [u32], text: &[u8], nodes: usize) -> Made
         requires { 3 ≤ nodes }
         ensures { outcome result table.new text.now
             ≡ first_made self table.old text.now (asks_for true true nodes 0) line₀ }
     {
-        let asks = Asks {
-            present: true,
-            amount: true,
-            text: true,
-            nodes: nodes,
-            bytes: 0,
-        };
-        let words = Words {
-            kind: HARDLINE,
-            a: 0,
-            b: 0,
-            c: 0,
-        };
-        let (c, broken) = self.node(table, text, asks, words)?;
+        let (c, broken) = self.node(
+            table,
+            text,
+            Asks::of(true, nodes),
+            words_of(HARDLINE, 0, 0, 0),
+        )?;
         let (c, flat) = c.nil(table, text)?;
         c.flat_alt(table, text, broken, flat)
     }
@@ -124,17 +108,12 @@ impl Counts {
             ≡ asked_for self (length table.now) bytes
             (asks_for (has self n.0) (leb by.0 1000) (indent_adds (take (self.nodes * 4) table.now) n.0 by.0) by.0) }
     {
-        self.ask(
-            table.len(),
-            bytes,
-            Asks {
-                present: self.has(n),
-                amount: by.0 <= 1000,
-                text: true,
-                nodes: self.indent_adds(table, n, by),
-                bytes: by.0 as usize,
-            },
-        )
+        let asks = Asks {
+            amount: by.0 <= 1000,
+            bytes: by.0 as usize,
+            ..Asks::of(self.has(n), self.indent_adds(table, n, by))
+        };
+        self.ask(table.len(), bytes, asks)
     }
 
     // One Text of so many blanks.
@@ -143,7 +122,7 @@ impl Counts {
         ensures { outcome result table.new text.new
             ≡ text_made self table.old text.old (replicate by.0 32) by.0 }
     {
-        let blanks = [32u8; 1000];
+        let blanks = [b' '; 1000];
         let columns = by.to_column();
         self.text(table, text, &blanks[..by.0 as usize], columns)
     }

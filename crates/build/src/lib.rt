@@ -9,7 +9,7 @@ ghost use Rattle.table.specs.Node.{word};
 ghost use Rattle.build.specs.Draft.{counts_of, counted, over, older, add};
 ghost use Rattle.build.specs.Parts.{stays, nest};
 ghost use Rattle.build.specs.Solid.{nest_adds};
-ghost use Rattle.build.specs.Outcome.{fits, asked_for, asks_for, answered, outcome, made, first_made};
+ghost use Rattle.build.specs.Outcome.{number, fits, asked_for, asks_for, answered, outcome, made, first_made};
 ghost use Rattle.build.specs.Constructors.{has, nest_right};
 
 use buffer::utf8::below_128;
@@ -20,13 +20,15 @@ mod lists;
 mod node;
 
 // How many nodes and text bytes are in use.
+// kept: (counts, table, text) are lent apart. A struct with two `&mut` fields would have each method promise of both that it keeps
+// its reference, two clauses more in each contract.
 #[derive(Clone, Copy)]
 pub struct Counts {
     pub nodes: u32,
     pub bytes: u32,
 }
 
-// Why a constructor refuses; specs/Outcome.antt has document 01's number for each.
+// Why a constructor refuses; as u32 document 01's number.
 #[derive(Clone, Copy)]
 pub enum Why {
     Sizes,
@@ -35,6 +37,23 @@ pub enum Why {
     Text,
     Bytes,
     Nodes,
+}
+
+impl From<Why> for u32 {
+    ghost from_gives = { λ why n. n ≡ number why };
+
+    fn from(why: Why) -> u32
+        ensures { result ≡ number why }
+    {
+        match why {
+            Why::Sizes => 1,
+            Why::Operand => 11,
+            Why::Amount => 3,
+            Why::Text => 5,
+            Why::Bytes => 12,
+            Why::Nodes => 10,
+        }
+    }
 }
 
 // What a constructor answers: the counts with the new node, or why it refuses.
@@ -50,32 +69,40 @@ pub struct Asks {
     pub bytes: usize,
 }
 
-// Whether `more` fits behind `before`, below the limit and in what is lent.
-fn fits(before: u32, more: usize, limit: u32, lent: usize) -> bool
-    ensures { result ≡ fits before (before + more) limit lent }
-{
-    let limit = limit as usize;
-    if more == 0 {
-        return true;
+impl Asks {
+    // So many nodes and no byte, with nothing but the operands to be wrong.
+    fn of(present: bool, nodes: usize) -> Asks
+        ensures { result ≡ asks_for present true nodes 0 }
+    {
+        Asks {
+            present,
+            amount: true,
+            text: true,
+            nodes,
+            bytes: 0,
+        }
     }
-    if limit < more {
-        return false;
-    }
-    let after = before as usize + more;
-    after <= limit && after <= lent
 }
 
-// One less, but not less than none.
-fn less_one(n: usize) -> usize
-    ensures { result ≡ n - 1 }
+// A node's words: its kind, then its own, 0 where it has none.
+fn words_of(kind: u32, a: u32, b: u32, c: u32) -> Words
+    ensures { result ≡ record { kind = kind; a = a; b = b; c = c } }
 {
-    if n == 0 {
-        return 0;
-    }
-    n - 1
+    Words { kind, a, b, c }
+}
+
+// Whether `more` fits behind `before`, below the limit and in what is lent.
+fn fits(before: u32, more: usize, limit: usize, lent: usize) -> bool
+    ensures { result ≡ fits before (before + more) limit lent }
+{
+    let Some(after) = (before as usize).checked_add(more) else {
+        return false;
+    };
+    more == 0 || after <= limit && after <= lent
 }
 
 // Amount 0 to 1,000; 0 adds, 1 subtracts.
+// kept: any way gets an answer, `Why::Amount` for one that is neither; a narrower type would ask more of callers.
 pub fn nest_right(amount: Indent, way: u32) -> bool
     ensures { result ≡ nest_right amount.0 way }
 {
@@ -221,18 +248,7 @@ impl Counts {
             ≡ made self table.old text.now present true true
             (λ s. add s words.kind words.a words.b words.c) }
     {
-        self.node(
-            table,
-            text,
-            Asks {
-                present: present,
-                amount: true,
-                text: true,
-                nodes: 1,
-                bytes: 0,
-            },
-            words,
-        )
+        self.node(table, text, Asks::of(present, 1), words)
     }
 
     // An older node, given back, with which more is asked for over a table and a text of these lengths.
@@ -248,18 +264,7 @@ impl Counts {
         ensures { outcome result table.now text.now
             ≡ made self table.now text.now present true true (λ s. older s n.0) }
     {
-        self.older(
-            table.len(),
-            text.len(),
-            Asks {
-                present: present,
-                amount: true,
-                text: true,
-                nodes: 0,
-                bytes: 0,
-            },
-            n,
-        )
+        self.older(table.len(), text.len(), Asks::of(present, 0), n)
     }
 
     // Whether Nest gives the node back.
@@ -285,27 +290,19 @@ impl Counts {
             (asks_for (has self n.0) (nest_right amount.0 way) (nest_adds (take (self.nodes * 4) table.old) n.0 amount.0 + more) 0)
             (λ s. nest s n.0 amount.0 way) }
     {
-        let mut asks = Asks {
-            present: self.has(n),
-            amount: nest_right(amount, way),
-            text: true,
-            nodes: more,
-            bytes: 0,
-        };
+        let amount_right = nest_right(amount, way);
+        let present = self.has(n);
         if self.nest_stays(table, n, amount) {
+            let asks = Asks {
+                amount: amount_right,
+                ..Asks::of(present, more)
+            };
             return self.older(table.len(), text.len(), asks, n);
         }
-        asks.nodes = 1 + more;
-        self.node(
-            table,
-            text,
-            asks,
-            Words {
-                kind: NEST,
-                a: n.0,
-                b: amount.0,
-                c: way,
-            },
-        )
+        let asks = Asks {
+            amount: amount_right,
+            ..Asks::of(present, 1 + more)
+        };
+        self.node(table, text, asks, words_of(NEST, n.0, amount.0, way))
     }
 }

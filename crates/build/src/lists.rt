@@ -4,21 +4,14 @@ ghost use Rattle.build.specs.Solid.{solid};
 ghost use Rattle.build.specs.Outcome.{outcome};
 ghost use Rattle.build.specs.Constructors.{has, has_all, enclose_made, concat_made, intersperse_made};
 
-use crate::{Asks, Counts, Made, less_one};
-use table::{NIL, NodeNo, Words};
+use crate::{Asks, Counts, Made, words_of};
+use table::{NIL, NodeNo};
 
 impl Counts {
     pub fn has_all(self, ns: &[u32]) -> bool
         ensures { result ≡ has_all self ns.now }
     {
-        let mut i = 0;
-        while i < ns.len() {
-            if self.nodes <= ns[i] {
-                return false;
-            }
-            i += 1;
-        }
-        true
+        ns.iter().all(|&n| self.has(NodeNo(n)))
     }
 
     fn has_with(self, n: NodeNo, ns: &[u32]) -> bool
@@ -31,17 +24,9 @@ impl Counts {
     fn solid(self, table: &[u32], ns: &[u32]) -> usize
         ensures { result ≡ solid (take (self.nodes * 4) table.now) ns.now }
     {
-        let mut count = 0;
-        let mut i = 0;
-        while i < ns.len() {
-            if self.is_nil(table, NodeNo(ns[i])) {
-                i += 1;
-                continue;
-            }
-            count += 1;
-            i += 1;
-        }
-        count
+        ns.iter()
+            .filter(|&&n| !self.is_nil(table, NodeNo(n)))
+            .count()
     }
 
     // How many of so many separators are no Nil.
@@ -62,7 +47,7 @@ impl Counts {
             + (length nodes.now - 1) * solid (take (self.nodes * 4) table.now) (separator.0 ∷ []) - 1 }
     {
         let solid = self.solid(table, nodes) + self.separators(table, separator, nodes.len() - 1);
-        less_one(solid)
+        solid.saturating_sub(1)
     }
 
     // Starts from the first; of none one Nil.
@@ -70,20 +55,18 @@ impl Counts {
         ensures { outcome result table.new text.now
             ≡ concat_made self table.old text.now nodes.now }
     {
-        if nodes.len() == 0 {
+        let Some((&first, rest)) = nodes.split_first() else {
             return self.nil(table, text);
-        }
-        let present = self.has_all(nodes);
-        let more = less_one(self.solid(table, nodes));
-        let asks = Asks {
-            present: present,
-            amount: true,
-            text: true,
-            nodes: more,
-            bytes: 0,
         };
-        let mut made = self.older(table.len(), text.len(), asks, NodeNo(nodes[0]))?;
-        for &n in &nodes[1..] {
+        let present = self.has_all(nodes);
+        let more = self.solid(table, nodes).saturating_sub(1);
+        let mut made = self.older(
+            table.len(),
+            text.len(),
+            Asks::of(present, more),
+            NodeNo(first),
+        )?;
+        for &n in rest {
             let (c, before) = made;
             made = c.append(table, text, before, NodeNo(n))?;
         }
@@ -118,29 +101,17 @@ impl Counts {
             ≡ intersperse_made self table.old text.now nodes.now separator.0 }
     {
         let present = self.has_with(separator, nodes);
-        if nodes.len() == 0 {
-            return self.one(
-                table,
-                text,
-                present,
-                Words {
-                    kind: NIL,
-                    a: 0,
-                    b: 0,
-                    c: 0,
-                },
-            );
-        }
-        let more = self.separated_adds(table, nodes, separator);
-        let asks = Asks {
-            present: present,
-            amount: true,
-            text: true,
-            nodes: more,
-            bytes: 0,
+        let Some((&first, rest)) = nodes.split_first() else {
+            return self.one(table, text, present, words_of(NIL, 0, 0, 0));
         };
-        let mut made = self.older(table.len(), text.len(), asks, NodeNo(nodes[0]))?;
-        for &n in &nodes[1..] {
+        let more = self.separated_adds(table, nodes, separator);
+        let mut made = self.older(
+            table.len(),
+            text.len(),
+            Asks::of(present, more),
+            NodeNo(first),
+        )?;
+        for &n in rest {
             let (c, before) = made;
             let (c, separated) = c.append(table, text, before, separator)?;
             made = c.append(table, text, separated, NodeNo(n))?;

@@ -4,10 +4,10 @@ ghost use Rattle.build.specs.Outcome.{outcome};
 ghost use Rattle.build.specs.Constructors.{nil_made, append_made, group_made, flat_alt_made, nest_made, hardline_made, text_made};
 ghost use Rattle.build.specs.Constructors.{annotate_made, union_made, align_made, fail_made};
 
-use crate::{Asks, Counts, Made};
+use crate::{Asks, Counts, Made, words_of};
 use table::{
     ALIGN, ANNOTATED, APPEND, Column, FAIL, FLAT_ALT, GROUP, HARDLINE, Indent, NIL, NodeNo, TEXT,
-    UNION, Words, columns_right,
+    UNION, columns_right,
 };
 
 impl Counts {
@@ -15,51 +15,21 @@ impl Counts {
         ensures { outcome result table.new text.now
             ≡ nil_made self table.old text.now }
     {
-        self.one(
-            table,
-            text,
-            true,
-            Words {
-                kind: NIL,
-                a: 0,
-                b: 0,
-                c: 0,
-            },
-        )
+        self.one(table, text, true, words_of(NIL, 0, 0, 0))
     }
 
     pub fn hardline(self, table: &mut [u32], text: &[u8]) -> Made
         ensures { outcome result table.new text.now
             ≡ hardline_made self table.old text.now }
     {
-        self.one(
-            table,
-            text,
-            true,
-            Words {
-                kind: HARDLINE,
-                a: 0,
-                b: 0,
-                c: 0,
-            },
-        )
+        self.one(table, text, true, words_of(HARDLINE, 0, 0, 0))
     }
 
     pub fn fail(self, table: &mut [u32], text: &[u8]) -> Made
         ensures { outcome result table.new text.now
             ≡ fail_made self table.old text.now }
     {
-        self.one(
-            table,
-            text,
-            true,
-            Words {
-                kind: FAIL,
-                a: 0,
-                b: 0,
-                c: 0,
-            },
-        )
+        self.one(table, text, true, words_of(FAIL, 0, 0, 0))
     }
 
     pub fn flat_alt(self, table: &mut [u32], text: &[u8], broken: NodeNo, flat: NodeNo) -> Made
@@ -71,12 +41,7 @@ impl Counts {
             table,
             text,
             present,
-            Words {
-                kind: FLAT_ALT,
-                a: broken.0,
-                b: flat.0,
-                c: 0,
-            },
+            words_of(FLAT_ALT, broken.0, flat.0, 0),
         )
     }
 
@@ -85,17 +50,7 @@ impl Counts {
             ≡ annotate_made self table.old text.now n.0 label }
     {
         let present = self.has(n);
-        self.one(
-            table,
-            text,
-            present,
-            Words {
-                kind: ANNOTATED,
-                a: n.0,
-                b: label,
-                c: 0,
-            },
-        )
+        self.one(table, text, present, words_of(ANNOTATED, n.0, label, 0))
     }
 
     pub fn union(self, table: &mut [u32], text: &[u8], first: NodeNo, second: NodeNo) -> Made
@@ -103,17 +58,7 @@ impl Counts {
             ≡ union_made self table.old text.now first.0 second.0 }
     {
         let present = self.has_both(first, second);
-        self.one(
-            table,
-            text,
-            present,
-            Words {
-                kind: UNION,
-                a: first.0,
-                b: second.0,
-                c: 0,
-            },
-        )
+        self.one(table, text, present, words_of(UNION, first.0, second.0, 0))
     }
 
     pub fn align(self, table: &mut [u32], text: &[u8], n: NodeNo) -> Made
@@ -121,17 +66,7 @@ impl Counts {
             ≡ align_made self table.old text.now n.0 }
     {
         let present = self.has(n);
-        self.one(
-            table,
-            text,
-            present,
-            Words {
-                kind: ALIGN,
-                a: n.0,
-                b: 0,
-                c: 0,
-            },
-        )
+        self.one(table, text, present, words_of(ALIGN, n.0, 0, 0))
     }
 
     // A Nil gives the other node, the left one looked at first.
@@ -146,17 +81,7 @@ impl Counts {
         if self.is_nil(table, b) {
             return self.given_back(table, text, present, a);
         }
-        self.one(
-            table,
-            text,
-            present,
-            Words {
-                kind: APPEND,
-                a: a.0,
-                b: b.0,
-                c: 0,
-            },
-        )
+        self.one(table, text, present, words_of(APPEND, a.0, b.0, 0))
     }
 
     // Group, Nil and Text of bytes below 128 are given back.
@@ -168,17 +93,7 @@ impl Counts {
         if self.stays(table, text, n) {
             return self.given_back(table, text, present, n);
         }
-        self.one(
-            table,
-            text,
-            present,
-            Words {
-                kind: GROUP,
-                a: n.0,
-                b: 0,
-                c: 0,
-            },
-        )
+        self.one(table, text, present, words_of(GROUP, n.0, 0, 0))
     }
 
     // Nil is given back, and anything at amount 0. Way 0 adds, 1 subtracts.
@@ -196,27 +111,14 @@ impl Counts {
     {
         let size = bytes.len();
         let right = columns_right(bytes, columns);
-        self.ask(
-            table.len(),
-            text.len(),
-            Asks {
-                present: true,
-                amount: true,
-                text: right,
-                nodes: 1,
-                bytes: size,
-            },
-        )?;
+        let asks = Asks {
+            text: right,
+            bytes: size,
+            ..Asks::of(true, 1)
+        };
+        self.ask(table.len(), text.len(), asks)?;
         if size == 0 {
-            return self.add(
-                table,
-                Words {
-                    kind: NIL,
-                    a: 0,
-                    b: 0,
-                    c: 0,
-                },
-            );
+            return self.add(table, words_of(NIL, 0, 0, 0));
         }
         let at = self.bytes;
         buffer::copy_bytes(bytes, 0, size, text, at as usize);
@@ -225,14 +127,6 @@ impl Counts {
             nodes: self.nodes,
             bytes: at + long,
         };
-        longer.add(
-            table,
-            Words {
-                kind: TEXT,
-                a: at,
-                b: long,
-                c: columns.0,
-            },
-        )
+        longer.add(table, words_of(TEXT, at, long, columns.0))
     }
 }

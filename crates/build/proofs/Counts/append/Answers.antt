@@ -22,4 +22,4 @@ unfolding counted
 returns c =
     let args = c.args in
     append_joins args.self args.table.now args.text.now c.has_both-present.ensures args.a.0 args.b.0
-    c.is_nil.ensures c.if-is_nil.false c.is_nil-2.ensures c.if-is_nil-2.false c.one.ensures
+    c.is_nil.ensures c.if-is_nil.false c.is_nil-2.ensures c.if-is_nil-2.false (rw c.words_of.ensures at c.one.ensures)

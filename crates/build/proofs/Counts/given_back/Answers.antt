@@ -6,4 +6,4 @@ use Rattle.build.proofs.Counts.given_back.Goals as goal
 pub returns : goal.returns
 returns c =
     let args = c.args in
-    given_back args.self args.table.now args.text.now args.present true args.n c.older.ensures
+    given_back args.self args.table.now args.text.now args.present true args.n (rw c.of.ensures at c.older.ensures)

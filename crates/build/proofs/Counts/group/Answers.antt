@@ -12,4 +12,4 @@ pub returns : goal.returns
 returns c =
     let args = c.args in
     group_groups args.self args.table.now args.text.now c.has-present.ensures args.n.0 c.stays.ensures
-    c.if-stays.false c.one.ensures
+    c.if-stays.false (rw c.words_of.ensures at c.one.ensures)

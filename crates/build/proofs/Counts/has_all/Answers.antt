@@ -1,35 +1,13 @@
-use native.Mathlib.Omega.{arith}
-use mathlib.Core.Path.{refl, sym, ◌∙◌}
-use borrow.Author.Tests.{lt-ltb, le-ltb}
+-- `has_all`: every one of the list is a present node.
+use Rattle.std.proofs.Common.{rules, refl, Decides, All, ◌<◌}
+use Rattle.std.proofs.lemmas.Bool.Decides.{same_from_decides, Decides-by_and, Decides-ltb}
 use Rattle.build.specs.Constructors.{has, has_all}
-use Rattle.build.proofs.Runs.{all-next, all-not, all_end}
 use Rattle.build.proofs.Counts.has_all.Goals as goal
-
-pub loop-i-init : goal.loop-i-init
-loop-i-init c = (omega arith, refl)
-
-pub returns-then-self-ns : goal.returns-then-self-ns
-unfolding has_all
-returns-then-self-ns c =
-    let args = c.args in
-    sym
-    (c.loop-i.invariant.1
-    ∙ all-not (has args.self) (has_all args.self) refl (λ x xs. refl) args.ns.now c.loop-i.i c.loop-i-test.true
-    (le-ltb _ _ c.if-self-ns.true))
-
-pub loop-i-preserved : goal.loop-i-preserved
-unfolding has_all
-loop-i-preserved c =
-    let args = c.args in (
-      omega arith,
-      c.loop-i.invariant.1
-          ∙ all-next (has args.self) (has_all args.self) refl (λ x xs. refl) args.ns.now c.loop-i.i c.loop-i-test.true
-          (lt-ltb _ _ c.if-self-ns.false),
-    )
 
 pub returns : goal.returns
 unfolding has_all
 returns c =
     let args = c.args in
-    sym
-    (c.loop-i.invariant.1 ∙ all_end (has args.self) (has_all args.self) refl (λ x xs. refl) args.ns.now c.loop-i.i c.loop-i-test.false)
+    let each : Decides c.all.result (All (λ n. n < args.self.nodes) args.ns.now) = search rules in
+    same_from_decides _ _ each
+    (Decides-by_and (has args.self) (λ n. n < args.self.nodes) (has_all args.self) (λ n. Decides-ltb n args.self.nodes) refl (λ _ _. refl) args.ns.now)

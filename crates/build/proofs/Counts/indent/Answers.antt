@@ -9,29 +9,29 @@ returns-in_err-ask_indent c =
     let args = c.args in
     let handed = err_from_is_err_and c.from_residual.result c.from_residual.ensures.1 in
     rw (handed.1, handed.2)
-    (indent-refused args.self args.table.now args.text.now args.n.0 args.by.0 c.ask_indent.ensures c.in_err-ask_indent.was)
+    (indent-refused args.self args.table.now args.text.now args.n.0 args.by.0 c.in_err-ask_indent.ensures)
 
 pub blanks-requires : goal.blanks-requires
 blanks-requires c =
     let args = c.args in
-    indent_by args.self args.table.now args.text.now args.n.0 args.by.0 c.ask_indent.ensures c.in_ok-ask_indent.was
+    indent_by args.self args.table.now args.text.now args.n.0 args.by.0 c.in_ok-ask_indent.ensures
 
 pub returns-in_err-c : goal.returns-in_err-c
 returns-in_err-c c =
     let args = c.args in
     let handed = err_from_is_err_and c.from_residual-in_err-c.result c.from_residual-in_err-c.ensures.1 in
     rw (handed.1, handed.2)
-    (indent-made args.self args.table.now args.text.now args.n.0 args.by.0 c.ask_indent.ensures c.in_ok-ask_indent.was _ _ _ c.in_err-c.ensures _ _ _ refl refl)
+    (indent-made args.self args.table.now args.text.now args.n.0 args.by.0 c.in_ok-ask_indent.ensures _ _ _ c.in_err-c.ensures _ _ _ refl refl)
 
 pub returns-in_err-c-2 : goal.returns-in_err-c-2
 returns-in_err-c-2 c =
     let args = c.args in
     let handed = err_from_is_err_and c.from_residual-in_err-c-2.result c.from_residual-in_err-c-2.ensures.1 in
     rw (handed.1, handed.2)
-    (indent-made args.self args.table.now args.text.now args.n.0 args.by.0 c.ask_indent.ensures c.in_ok-ask_indent.was _ _ _ c.in_ok-c.ensures _ _ _ c.in_err-c-2.ensures refl)
+    (indent-made args.self args.table.now args.text.now args.n.0 args.by.0 c.in_ok-ask_indent.ensures _ _ _ c.in_ok-c.ensures _ _ _ c.in_err-c-2.ensures refl)
 
 pub returns : goal.returns
 returns c =
     let args = c.args in
-    indent-made args.self args.table.now args.text.now args.n.0 args.by.0 c.ask_indent.ensures c.in_ok-ask_indent.was _ _ _ c.in_ok-c.ensures _ _ _ c.in_ok-c-2.ensures
+    indent-made args.self args.table.now args.text.now args.n.0 args.by.0 c.in_ok-ask_indent.ensures _ _ _ c.in_ok-c.ensures _ _ _ c.in_ok-c-2.ensures
     c.hang.ensures

@@ -8,4 +8,4 @@ returns c =
     let args = c.args in
     let words = args.words in
     node_alone args.self args.table.now args.text.now args.present true words.kind words.a words.b words.c
-    c.node.ensures
+    (rw c.of.ensures at c.node.ensures)

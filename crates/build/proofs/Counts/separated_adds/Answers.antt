@@ -10,7 +10,3 @@ overflow_add-solid c =
     let args = c.args in
     let b = solid_bound (take (args.self.nodes * 4) args.table.now) args.separator.0 args.nodes.now (length args.nodes.now - 1) in
     omega (arith, c.solid.ensures, c.separators.ensures, c.well_formed)
-
-pub returns : goal.returns
-returns c =
-    simp (← c.solid.ensures, ← c.separators.ensures) c.less_one.ensures

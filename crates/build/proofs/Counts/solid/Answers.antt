@@ -1,31 +1,12 @@
-use Prim.Native.Nat.{◌*◌}
-use native.Mathlib.Omega.{arith}
-use mathlib.Core.Path.{sym, ◌∙◌}
-use lib.ListN.{take}
-use Rattle.build.proofs.Runs.{count_next, count_skip, count-end}
+-- `solid`: counts what is no Nil.
+use Rattle.std.proofs.Common.{rules, sym, ◌∙◌, ◌≡◌, not, eqb, take, ◌*◌, count_by}
+use Rattle.table.specs.Node.{word}
+use Rattle.build.proofs.Runs.{solid_is}
 use Rattle.build.proofs.Counts.solid.Goals as goal
-
-pub loop-i-init : goal.loop-i-init
-loop-i-init c = (omega arith, omega arith, omega arith)
-
-pub loop-i-preserved-then-is_nil : goal.loop-i-preserved-then-is_nil
-loop-i-preserved-then-is_nil c =
-    let args = c.args in
-    let e =
-    count_skip (take (args.self.nodes * 4) args.table.now) args.ns.now c.loop-i.i c.loop-i-test.true
-    (sym c.is_nil.ensures ∙ c.if-is_nil.true) in
-    (omega arith, omega arith, omega (arith, c.loop-i.invariant.2))
-
-pub loop-i-preserved : goal.loop-i-preserved
-loop-i-preserved c =
-    let args = c.args in
-    let e =
-    count_next (take (args.self.nodes * 4) args.table.now) args.ns.now c.loop-i.i c.loop-i-test.true
-    (sym c.is_nil.ensures ∙ c.if-is_nil.false) in
-    (omega arith, omega arith, omega (arith, c.loop-i.invariant.2))
 
 pub returns : goal.returns
 returns c =
     let args = c.args in
-    let e = count-end (take (args.self.nodes * 4) args.table.now) args.ns.now c.loop-i.i c.loop-i-test.false in
-    omega (arith, c.loop-i.invariant.2)
+    let table = take (args.self.nodes * 4) args.table.now in
+    let counted : c.count.result ≡ count_by (λ n. not (eqb (word table n 0) 0)) args.ns.now = search rules in
+    counted ∙ sym (solid_is table args.ns.now)
