@@ -66,10 +66,10 @@ fn part(c: Counts, table: &mut [u32], text: &mut [u8], shared: Shared, line: &[u
     let hardline = shared.hardline;
     let says = parse(line);
     match says {
-        Line::Row(p) => row(c, table, text, shared, line, p),
-        Line::Heading => heading(c, table, text, shared, behind(line, 1)),
-        Line::Empty => Made::Node(c, hardline),
-        Line::Bad(_) => Made::Node(c, none),
+        Ok(Line::Row(p)) => row(c, table, text, shared, line, p),
+        Ok(Line::Heading) => heading(c, table, text, shared, behind(line, 1)),
+        Ok(Line::Empty) => Made::Node(c, hardline),
+        Err(_) => Made::Node(c, none),
     }
 }
 

@@ -3,7 +3,7 @@
 
 #![tactic(auto)]
 
-ghost use Rattle.std.specs.Prelude.{◌≡◌, ◌≤◌, length};
+ghost use Rattle.std.specs.Prelude.{◌≡◌, ◌≤◌, length, Ok};
 ghost use Rattle.results.specs.Pallets.{parsed};
 ghost use Rattle.results.specs.declared.Line.TheVariants.{Row};
 ghost use Rattle.buffer.specs.Placing.{Adds};
@@ -61,7 +61,7 @@ pub fn row(
     line: &[u8],
     p: Pallet,
 ) -> Made
-    requires { parsed line.now ≡ Row p }
+    requires { parsed line.now ≡ Ok (Row p) }
     ensures { Shares c table.old text.old shared
         → Gives c table.old text.old
         result table.new text.new
@@ -74,12 +74,11 @@ pub fn row(
         return made;
     };
     let made = ended(c, table, text, shared, fixed, line, p.remark);
-    let mark = label(p.grams, p.tenths);
-    if mark == 0 {
+    let Some(mark) = label(p.grams, p.tenths) else {
         return made;
-    }
+    };
     let Made::Node(c, n) = made else {
         return made;
     };
-    c.annotate(table, text, n, mark)
+    c.annotate(table, text, n, u32::from(mark))
 }
