@@ -3,3 +3,4 @@ pub mod Put
 pub mod Octets
 pub mod Reading
 pub mod Placing
+pub mod ByLine

@@ -4,3 +4,4 @@ pub mod Utf8
 pub mod Reader
 pub mod Parts
 pub mod Placing
+pub mod Lines

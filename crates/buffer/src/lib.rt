@@ -3,6 +3,7 @@
 
 #![tactic(auto)]
 
+pub mod lines;
 pub mod parts;
 pub mod utf8;
 

@@ -18,10 +18,11 @@ use Rattle.build.specs.Documents.{append_doc, joined_doc, concat_doc}
 use Rattle.build.specs.Promise.{ValidSoFar}
 use Rattle.buffer.specs.Parts.{between, index_of, lines, LineEnds, body_end}
 use Rattle.buffer.proofs.Reading.{done, line_first}
+use Rattle.std.specs.Prelude.{Ok, Err}
 use Rattle.results.specs.Pallets.{parsed}
 use Rattle.results.specs.declared.Pallet.{Pallet}
 use Rattle.results.specs.declared.Fault.{Fault}
-use Rattle.results.specs.declared.Line.TheVariants.{Empty, Heading, Row, Bad}
+use Rattle.results.specs.declared.Line.TheVariants.{Empty, Heading, Row}
 use Rattle.words.specs.Widths.{width}
 use Rattle.words.specs.Documents.{filled_doc}
 use Rattle.row.specs.Documents.{row_doc}
@@ -50,19 +51,19 @@ module _ {s : List ℕ} {at end : ℕ} (l : LineEnds s at end) (h : at < length 
 
 -- what is known of a line is what it says
 module _ (line : List ℕ) where
-  pub says_row : {p : Pallet} → Row p ≡ parsed line → row_doc line p ≡ says_doc line (parsed line)
+  pub says_row : {p : Pallet} → Ok (Row p) ≡ parsed line → row_doc line p ≡ says_doc line (parsed line)
   unfolding says_doc
   says_row e = ap (says_doc line) e
 
-  pub says-heading : {words : List ℕ} → words ≡ drop 1 line → Heading ≡ parsed line → append_doc (filled_doc width words) hardline ≡ says_doc line (parsed line)
+  pub says-heading : {words : List ℕ} → words ≡ drop 1 line → Ok Heading ≡ parsed line → append_doc (filled_doc width words) hardline ≡ says_doc line (parsed line)
   unfolding says_doc
   says-heading is e = ap (λ (l : List ℕ). append_doc (filled_doc width l) hardline) is ∙ ap (says_doc line) e
 
-  pub says-empty : Empty ≡ parsed line → hardline ≡ says_doc line (parsed line)
+  pub says-empty : Ok Empty ≡ parsed line → hardline ≡ says_doc line (parsed line)
   unfolding says_doc
   says-empty e = ap (says_doc line) e
 
-  pub says-fault : {fault : Fault} → Bad fault ≡ parsed line → nil ≡ says_doc line (parsed line)
+  pub says-fault : {fault : Fault} → Err fault ≡ parsed line → nil ≡ says_doc line (parsed line)
   unfolding says_doc
   says-fault e = ap (says_doc line) e
 

@@ -1,12 +1,13 @@
 -- The document that the sheet of an input is: its lines in order, then the footer. The functions of src/ are held to it.
 -- A row is row/specs/Documents' row_doc, the words of a heading words/specs/Documents' filled_doc, the footer footer/specs/Documents' footer_doc.
-use Rattle.std.specs.Prelude.{ℕ, List, map, take, drop}
+use Rattle.std.specs.Prelude.{ℕ, List, map, take, drop, Result, Ok, Err}
 use Rattle.table.specs.Document.{Doc, nil, hardline}
 use Rattle.build.specs.Documents.{append_doc, concat_doc}
 use Rattle.buffer.specs.Parts.{lines, body_end}
 use Rattle.results.specs.Pallets.{parsed}
+use Rattle.results.specs.declared.Fault.{Fault}
 use Rattle.results.specs.declared.Line.{Line}
-use Rattle.results.specs.declared.Line.TheVariants.{Empty, Heading, Row, Bad}
+use Rattle.results.specs.declared.Line.TheVariants.{Empty, Heading, Row}
 use Rattle.words.specs.Widths.{width}
 use Rattle.words.specs.Documents.{filled_doc}
 use Rattle.row.specs.Documents.{row_doc}
@@ -15,11 +16,11 @@ use Rattle.footer.specs.Documents.{footer_doc}
 -- ---- a line
 
 -- by what it says; a heading goes without its `#`, and a line at fault adds nothing
-unfoldable pub says_doc : List ℕ → Line → Doc
-says_doc line Empty = hardline
-says_doc line Heading = append_doc (filled_doc width (drop 1 line)) hardline
-says_doc line (Row p) = row_doc line p
-says_doc line (Bad fault) = nil
+unfoldable pub says_doc : List ℕ → Result Line Fault → Doc
+says_doc line (Ok Empty) = hardline
+says_doc line (Ok Heading) = append_doc (filled_doc width (drop 1 line)) hardline
+says_doc line (Ok (Row p)) = row_doc line p
+says_doc line (Err fault) = nil
 
 -- without the carriage return at its end
 unfoldable pub part_doc : List ℕ → Doc

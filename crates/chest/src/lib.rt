@@ -61,10 +61,10 @@ fn part(c: Counts, table: &mut [u32], text: &mut [u8], shared: Shared, line: &[u
     let hardline = shared.hardline;
     let says = parse(line);
     match says {
-        Line::Row(p) => row(c, table, text, shared, line, p),
-        Line::Heading => heading(c, table, text, shared, behind(line, 1)),
-        Line::Empty => Ok((c, hardline)),
-        Line::Bad(_) => Ok((c, none)),
+        Ok(Line::Row(p)) => row(c, table, text, shared, line, p),
+        Ok(Line::Heading) => heading(c, table, text, shared, behind(line, 1)),
+        Ok(Line::Empty) => Ok((c, hardline)),
+        Err(_) => Ok((c, none)),
     }
 }
 

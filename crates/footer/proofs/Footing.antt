@@ -24,8 +24,8 @@ use Rattle.block.specs.Documents.{block_doc}
 use Rattle.block.proofs.Alternatives.{format_promise}
 use Rattle.buffer.specs.Parts.{lines}
 use Rattle.results.specs.Standing.{row_count, out_notes, Names}
-use Rattle.results.specs.declared.tolerance.Next.{Next}
-use Rattle.results.specs.declared.tolerance.Next.TheVariants.{NoMore}
+use Rattle.std.specs.Prelude.{Option, None}
+use Rattle.results.specs.declared.tolerance.Out.{Out}
 use Rattle.buffer.proofs.Reading.{done}
 use Rattle.buffer.specs.Placing.{Placed}
 use Rattle.footer.specs.Digits.{digits}
@@ -81,8 +81,8 @@ module _ {rows : ℕ} (ls : List (List ℕ)) where
 
 -- ---- the notes
 
-pub no_more : {r : Next} (s : List ℕ) (at : ℕ) → r ≡ NoMore → Names r s at → out_notes (lines (drop at s)) ≡ []
-no_more s at e n = subst (λ (r : Next). Names r s at) e n
+pub no_more : {r : Option Out} (s : List ℕ) (at : ℕ) → r ≡ None → Names r s at → out_notes (lines (drop at s)) ≡ []
+no_more s at e n = subst (λ (r : Option Out). Names r s at) e n
 
 pub no_notes : (s : List ℕ) (at : ℕ) → length s ≤ at → out_notes (lines (drop at s)) ≡ []
 unfolding out_notes lines

@@ -17,7 +17,7 @@ ghost use Rattle.words.specs.Build.{Is, Shares, Gives};
 use block::Block;
 use buffer::parts::{behind, front, put};
 use build::{Counts, Made};
-use results::tolerance::{Next, count, next_out};
+use results::tolerance::{count, next_out};
 use table::{Indent, NodeNo};
 use words::{BELOW, Shared, add_word, leaf};
 
@@ -86,16 +86,12 @@ fn notes(
     let mut n = none;
     let mut between = none;
     let mut at = 0;
-    while at < input.len() {
-        let next = next_out(input, at);
-        let Next::Found(start, end, feed) = next else {
-            return Ok((c, n));
-        };
-        let (after, joined) = add_word(c, table, text, n, between, &input[start..end])?;
+    while let Some(out) = next_out(input, at) {
+        let (after, joined) = add_word(c, table, text, n, between, &input[out.start..out.note])?;
         c = after;
         n = joined;
         between = comma;
-        at = feed + 1;
+        at = out.end + 1;
     }
     Ok((c, n))
 }

@@ -2,4 +2,5 @@
 pub mod Numbers
 pub mod Pallets
 pub mod Tolerance
+pub mod Marks
 pub mod Standing

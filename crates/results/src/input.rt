@@ -1,56 +1,50 @@
 // The whole input: which line is at fault first.
-ghost use Rattle.std.specs.Prelude.{◌≡◌, take};
-ghost use Rattle.buffer.specs.Parts.{body_end, lines};
-ghost use Rattle.results.specs.Pallets.{parsed, verdict_of, checked};
+ghost use Rattle.std.specs.Prelude.{◌≡◌};
+ghost use Rattle.buffer.specs.Parts.{lines};
+ghost use Rattle.results.specs.Pallets.{verdict_at, checked};
 
-use crate::{Fault, Line, parse};
-use buffer::parts::{body_end, line_end};
+use crate::{Fault, parse};
+use buffer::lines::{Lines, body};
+use std::fmt;
 
-// Whether a line is wrong.
+// A line at fault, counted from 1, and what is wrong with it.
 #[derive(Clone, Copy)]
-enum Verdict {
-    Sound,
-    Faulty(Fault),
+pub struct FaultAt {
+    pub line: usize,
+    pub fault: Fault,
 }
 
-// No line is wrong, or this one is the first, counted from 1.
-#[derive(Clone, Copy)]
-pub enum Checked {
-    AllSound,
-    FaultAt(usize, Fault),
+impl fmt::Display for FaultAt {
+    fn fmt<W: fmt::Write>(&self, f: &mut fmt::Formatter<W>) -> fmt::Result {
+        let line = self.line;
+        let fault = self.fault;
+        write!(f, "line {line}: {fault}")
+    }
 }
 
 // Whether a line is at fault; a carriage return at its end is none of its bytes.
-fn told(s: &[u8]) -> Verdict
-    ensures { result ≡ verdict_of (parsed (take (body_end s.now) s.now)) }
+#[tactic(auto, unfolding(crate::specs::Pallets::verdict_of))]
+fn told(line: &[u8]) -> Result<(), Fault>
+    ensures { result ≡ verdict_at line.now }
 {
-    let n = body_end(s);
-    let line = parse(&s[..n]);
-    match line {
-        Line::Bad(fault) => Verdict::Faulty(fault),
-        Line::Empty => Verdict::Sound,
-        Line::Heading => Verdict::Sound,
-        Line::Row(_) => Verdict::Sound,
-    }
+    parse(body(line))?;
+    Ok(())
 }
 
 // The first line at fault.
-pub fn check(input: &[u8]) -> Checked
+#[tactic(auto, unfolding(crate::specs::Pallets::checked))]
+pub fn check(input: &[u8]) -> Result<(), FaultAt>
     ensures { result ≡ checked 0 (lines input.now) }
 {
     let mut before = 0;
-    let mut at = 0;
-    while at < input.len() {
-        let end = line_end(input, at);
-        let verdict = told(&input[at..end]);
-        if let Verdict::Faulty(fault) = verdict {
-            return Checked::FaultAt(before + 1, fault);
-        }
-        if input.len() <= end {
-            return Checked::AllSound;
+    for line in Lines::new(input) {
+        if let Err(fault) = told(line) {
+            return Err(FaultAt {
+                line: before + 1,
+                fault,
+            });
         }
         before += 1;
-        at = end + 1;
     }
-    Checked::AllSound
+    Ok(())
 }

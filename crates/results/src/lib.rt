@@ -4,12 +4,13 @@
 
 #![tactic(auto)]
 
-ghost use Rattle.std.specs.Prelude.{◌≡◌, ◌+◌, ◌<◌, ◌^◌, length};
-ghost use Rattle.results.specs.Pallets.{fields_of, Ordered, measured, pallet_of, said, parsed};
+ghost use Rattle.std.specs.Prelude.{◌≡◌, ◌<◌, ◌≤◌, length, IfOk, IfErr};
+ghost use Rattle.results.specs.Pallets.{separator, fields_of, Ordered, pallet_of, said, parsed};
 
 use buffer::parts::{columns, has_controls, is_blank, part_end};
 use buffer::utf8::well_formed;
-use numbers::{Amount, number, tenths};
+use numbers::{number, tenths};
+use std::fmt;
 
 pub mod input;
 mod numbers;
@@ -45,113 +46,114 @@ pub enum Fault {
     Pluck,
 }
 
-// Where the three separators stand, or which field is missing.
-#[derive(Clone, Copy)]
-pub enum Cuts {
-    At(usize, usize, usize),
-    Missing(Fault),
+impl fmt::Display for Fault {
+    fn fmt<W: fmt::Write>(&self, f: &mut fmt::Formatter<W>) -> fmt::Result {
+        f.write_str(match self {
+            Fault::TooLong => "it is longer than 200 bytes",
+            Fault::NotUtf8 => "it is not UTF-8",
+            Fault::Control => "it has a control character",
+            Fault::NoForce => "the force is missing (note;force;pluck point;remark)",
+            Fault::NoPluck => "the pluck point is missing (note;force;pluck point;remark)",
+            Fault::NoRemark => {
+                "the ; before the remark is missing (note;force;pluck point;remark)"
+            }
+            Fault::Note => "the note must have 1 to 5 characters, not all of them blanks",
+            Fault::Force => "the force is not a whole number of grams, 0 to 9999",
+            Fault::Pluck => "the pluck point is not a number of millimetres like 1.2",
+        })
+    }
 }
 
-// What a line says: nothing, a heading, a pallet, or what is wrong.
+// Where the three separators stand.
+#[derive(Clone, Copy)]
+struct Cuts {
+    first: usize,
+    second: usize,
+    third: usize,
+}
+
+// What a line says that is not at fault: nothing, a heading or a pallet.
 #[derive(Clone, Copy)]
 pub enum Line {
     Empty,
     Heading,
     Row(Pallet),
-    Bad(Fault),
+}
+
+// The first separator from a place on, or which field is missing.
+fn cut(s: &[u8], from: usize, missing: Fault) -> Result<usize, Fault>
+    ensures at { IfOk result (λ at. (at ≡ separator s.now from) × (at < length s.now)) }
+    ensures none { IfErr result (λ e. (e ≡ missing) × (length s.now ≤ separator s.now from)) }
+{
+    let at = part_end(s, from, b';');
+    if at < s.len() { Ok(at) } else { Err(missing) }
 }
 
 // Where the separators stand.
-fn fields(s: &[u8]) -> Cuts
+fn fields(s: &[u8]) -> Result<Cuts, Fault>
     ensures { (result ≡ fields_of s.now)
         × Ordered result (length s.now) }
 {
-    let first = part_end(s, 0, b';');
-    if s.len() <= first {
-        return Cuts::Missing(Fault::NoForce);
-    }
-    let second = part_end(s, first + 1, b';');
-    if s.len() <= second {
-        return Cuts::Missing(Fault::NoPluck);
-    }
-    let third = part_end(s, second + 1, b';');
-    if s.len() <= third {
-        return Cuts::Missing(Fault::NoRemark);
-    }
-    Cuts::At(first, second, third)
-}
-
-// Force and pluck point, the force looked at first.
-fn measured(first: usize, second: usize, third: usize, force: Amount, pluck: Amount) -> Line
-    requires { (first < second) × (second < third) × (third + 1 < 2 ^ 64) }
-    ensures { result ≡ measured first second third force pluck }
-{
-    match force {
-        Amount::NoNumber => Line::Bad(Fault::Force),
-        Amount::Is(grams) => match pluck {
-            Amount::NoNumber => Line::Bad(Fault::Pluck),
-            Amount::Is(tenths) => Line::Row(Pallet {
-                force: first + 1,
-                pluck: second + 1,
-                remark: third + 1,
-                grams: grams,
-                tenths: tenths,
-            }),
-        },
-    }
-}
-
-// The pallet whose separators stand there.
-fn pallet_at(s: &[u8], first: usize, second: usize, third: usize) -> Line
-    requires { (first < second) × (second < third) × (third < length s.now) }
-    ensures { result ≡ pallet_of s.now first second third }
-{
-    if is_blank(&s[..first]) {
-        return Line::Bad(Fault::Note);
-    }
-    if WIDEST_NOTE < columns(&s[..first]) {
-        return Line::Bad(Fault::Note);
-    }
-    let force = first + 1;
-    let pluck = second + 1;
-    measured(
+    let first = cut(s, 0, Fault::NoForce)?;
+    let second = cut(s, first + 1, Fault::NoPluck)?;
+    let third = cut(s, second + 1, Fault::NoRemark)?;
+    Ok(Cuts {
         first,
         second,
         third,
-        number(&s[force..second]),
-        tenths(&s[pluck..third]),
-    )
+    })
+}
+
+// The pallet whose separators stand there: the note is looked at first, then the force, then the pluck point.
+fn pallet_at(s: &[u8], cuts: Cuts) -> Result<Line, Fault>
+    requires { (cuts.first < cuts.second) × (cuts.second < cuts.third) × (cuts.third < length s.now) }
+    ensures { result ≡ pallet_of s.now cuts.first cuts.second cuts.third }
+{
+    let note = &s[..cuts.first];
+    if is_blank(note) || WIDEST_NOTE < columns(note) {
+        return Err(Fault::Note);
+    }
+    let force = cuts.first + 1;
+    let pluck = cuts.second + 1;
+    let remark = cuts.third + 1;
+    let grams = number(&s[force..cuts.second]).ok_or(Fault::Force)?;
+    let tenths = tenths(&s[pluck..cuts.third]).ok_or(Fault::Pluck)?;
+    Ok(Line::Row(Pallet {
+        force,
+        pluck,
+        remark,
+        grams,
+        tenths,
+    }))
 }
 
 // What a line says that is short enough and all of printable characters.
-fn said(s: &[u8]) -> Line
+#[tactic(auto, unfolding(crate::specs::Pallets::said, crate::specs::Pallets::pallet_at))]
+fn said(s: &[u8]) -> Result<Line, Fault>
     ensures { result ≡ said s.now }
 {
-    if s.len() == 0 {
-        return Line::Empty;
+    if s.is_empty() {
+        return Ok(Line::Empty);
     }
     if s[0] == b'#' {
-        return Line::Heading;
+        return Ok(Line::Heading);
     }
-    let fields = fields(s);
-    match fields {
-        Cuts::Missing(fault) => Line::Bad(fault),
-        Cuts::At(first, second, third) => pallet_at(s, first, second, third),
-    }
+    pallet_at(s, fields(s)?)
 }
 
-// What a line says; it is given without its line end.
-pub fn parse(s: &[u8]) -> Line
+// What a line says, or what is wrong with it; it is given without its line end.
+#[tactic(auto, unfolding(crate::specs::Pallets::parsed))]
+pub fn parse(s: &[u8]) -> Result<Line, Fault>
     ensures { result ≡ parsed s.now }
 {
     if LONGEST_LINE < s.len() {
-        return Line::Bad(Fault::TooLong);
+        return Err(Fault::TooLong);
     }
     if !well_formed(s) {
-        return Line::Bad(Fault::NotUtf8);
+        return Err(Fault::NotUtf8);
     }
     if has_controls(s) {
-        return Line::Bad(Fault::Control);
+        return Err(Fault::Control);
     }
     said(s)
 }

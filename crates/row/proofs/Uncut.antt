@@ -22,11 +22,9 @@ use Rattle.results.specs.Pallets.{separator, cuts_at, fields_of, measured, palle
 use Rattle.results.specs.declared.Pallet.{Pallet}
 use Rattle.results.specs.declared.Fault.{Fault}
 use Rattle.results.specs.declared.Fault.TheVariants.{TooLong, NotUtf8, Control, NoForce, NoPluck, NoRemark, Note, Force, Pluck}
-use Rattle.results.specs.declared.Cuts.TheVariants.{At, Missing}
+use Rattle.std.specs.Prelude.{Option, Some, None, Result, Ok, Err}
 use Rattle.results.specs.declared.Line.{Line}
-use Rattle.results.specs.declared.Line.TheVariants.{Empty, Heading, Row, Bad}
-use Rattle.results.specs.declared.numbers.Amount.{Amount}
-use Rattle.results.specs.declared.numbers.Amount.TheVariants.{Is, NoNumber}
+use Rattle.results.specs.declared.Line.TheVariants.{Empty, Heading, Row}
 use Rattle.buffer.specs.Placing.{Adds}
 use Rattle.buffer.proofs.Reading.{index-within}
 use Rattle.buffer.proofs.Placing.{written_at}
@@ -90,40 +88,40 @@ few_bytes (suc k) (r ∷ rs) (b ∷ bs) e = go (goes_on b) (few_bytes k rs bs (a
 -- ---- a line that is a row
 
 -- a choice that is a row is the arm that can be one
-module _ {p : Pallet} (q : Bool) (x y : Line) (no : y ≡ Row p → ⊥) where
-  other : pick q y x ≡ Row p → (q ≡ false) × (x ≡ Row p)
+module _ {p : Pallet} (q : Bool) (x y : Result Line Fault) (no : y ≡ Ok (Row p) → ⊥) where
+  other : pick q y x ≡ Ok (Row p) → (q ≡ false) × (x ≡ Ok (Row p))
   other = go q
     where
-      go : (q : Bool) → pick q y x ≡ Row p → (q ≡ false) × (x ≡ Row p)
+      go : (q : Bool) → pick q y x ≡ Ok (Row p) → (q ≡ false) × (x ≡ Ok (Row p))
       go true e = absurd (no e)
       go false e = (refl, e)
 
-  this : pick q x y ≡ Row p → (q ≡ true) × (x ≡ Row p)
+  this : pick q x y ≡ Ok (Row p) → (q ≡ true) × (x ≡ Ok (Row p))
   this = go q
     where
-      go : (q : Bool) → pick q x y ≡ Row p → (q ≡ true) × (x ≡ Row p)
+      go : (q : Bool) → pick q x y ≡ Ok (Row p) → (q ≡ true) × (x ≡ Ok (Row p))
       go true e = (refl, e)
       go false e = absurd (no e)
 
-not_bad : {p : Pallet} (f : Fault) → Bad f ≡ Row p → ⊥
+not_bad : {p : Pallet} (f : Fault) → Err f ≡ Ok (Row p) → ⊥
 not_bad f e = let z : ◌≡◌ {A = ℕ} 0 1 = cc in omega arith
 
-number_short : (s : List ℕ) (n : ℕ) → number_of s ≡ Is n → length s ≤ 4
+number_short : (s : List ℕ) (n : ℕ) → number_of s ≡ Some n → length s ≤ 4
 unfolding number_of
 number_short s n = go (leb 1 (length s) && leb (length s) 4) refl
   where
-    go : (q : Bool) → (leb 1 (length s) && leb (length s) 4) ≡ q → pick q (numbers.digits 0 s) NoNumber ≡ Is n → length s ≤ 4
+    go : (q : Bool) → (leb 1 (length s) && leb (length s) 4) ≡ q → pick q (numbers.digits 0 s) None ≡ Some n → length s ≤ 4
     go true w e = leb-true (length s) 4 (and-true (leb 1 (length s)) (leb (length s) 4) w).1
     go false w e = let z : ◌≡◌ {A = ℕ} 0 1 = cc in absurd (omega arith)
 
-tenths-short : (s : List ℕ) (n : ℕ) → tenths_of s ≡ Is n → length s ≤ 4
+tenths-short : (s : List ℕ) (n : ℕ) → tenths_of s ≡ Some n → length s ≤ 4
 unfolding tenths_of
 tenths-short s n = go (leb 3 (length s) && leb (length s) 4 && point) refl
   where
     point : Bool
     point = eqb (get_or s (length s - 2) 0) 46 || eqb (get_or s (length s - 2) 0) 44
 
-    go : (q : Bool) → (leb 3 (length s) && leb (length s) 4 && point) ≡ q → pick q (tenths_add (number_of (take (length s - 2) s)) (number_of (drop (length s - 1) s))) NoNumber ≡ Is n → length s ≤ 4
+    go : (q : Bool) → (leb 3 (length s) && leb (length s) 4 && point) ≡ q → pick q (tenths_add (number_of (take (length s - 2) s)) (number_of (drop (length s - 1) s))) None ≡ Some n → length s ≤ 4
     go true w e = leb-true (length s) 4 (and-true (leb 3 (length s)) (leb (length s) 4) (and-true (leb 3 (length s) && leb (length s) 4) point w).0).1
     go false w e = let z : ◌≡◌ {A = ℕ} 0 1 = cc in absurd (omega arith)
 
@@ -150,11 +148,11 @@ module _ (s : List ℕ) (p : Pallet) (short : length s ≤ 200) (formed : owed [
       let same : separator s from - from ≡ index_of 59 (drop from s) = omega arith in
       rw same (length-take-le (index_of 59 (drop from s)) (drop from s) (index-within 59 (drop from s)))
 
-  of_amounts : characters (take first s) ≤ 5 → (force pluck : Amount) → number_of (between s (first + 1) second) ≡ force → tenths_of (between s (second + 1) third) ≡ pluck → measured first second third force pluck ≡ Row p → Sound s p
+  of_amounts : characters (take first s) ≤ 5 → (force pluck : Option ℕ) → number_of (between s (first + 1) second) ≡ force → tenths_of (between s (second + 1) third) ≡ pluck → measured first second third force pluck ≡ Ok (Row p) → Sound s p
   unfolding measured
-  of_amounts few NoNumber pluck i j e = absurd (not_bad Force e)
-  of_amounts few (Is grams) NoNumber i j e = absurd (not_bad Pluck e)
-  of_amounts few (Is grams) (Is point) i j e =
+  of_amounts few None pluck i j e = absurd (not_bad Force e)
+  of_amounts few (Some grams) None i j e = absurd (not_bad Pluck e)
+  of_amounts few (Some grams) (Some point) i j e =
       let same : record { force = first + 1; pluck = second + 1; remark = third + 1; grams = grams; tenths = point } ≡ p = cc in
       let at-force : first + 1 ≡ p.force = ap (λ (q : Pallet). q.force) same in
       let at-pluck : second + 1 ≡ p.pluck = ap (λ (q : Pallet). q.pluck) same in
@@ -166,27 +164,27 @@ module _ (s : List ℕ) (p : Pallet) (short : length s ≤ 200) (formed : owed [
         pluck = subst (λ (k : ℕ). index_of 59 (drop k s) ≤ 4) at-pluck (omega (arith, part-size (second + 1), tenths-short _ _ j));
       }
 
-  of_fields : pallet_at s (fields_of s) ≡ Row p → Sound s p
+  of_fields : pallet_at s (fields_of s) ≡ Ok (Row p) → Sound s p
   unfolding pallet_at fields_of cuts_at pallet_of
   of_fields = go (leb (length s) first) (leb (length s) second) (leb (length s) third)
     where
-      go : (x y z : Bool) → pallet_at s (pick x (Missing NoForce) (pick y (Missing NoPluck) (pick z (Missing NoRemark) (At first second third)))) ≡ Row p → Sound s p
+      go : (x y z : Bool) → pallet_at s (pick x (Err NoForce) (pick y (Err NoPluck) (pick z (Err NoRemark) (Ok (record { first = first; second = second; third = third }))))) ≡ Ok (Row p) → Sound s p
       go true y z e = absurd (not_bad NoForce e)
       go false true z e = absurd (not_bad NoPluck e)
       go false false true e = absurd (not_bad NoRemark e)
       go false false false e =
-          let a = other (blank (take first s)) _ (Bad Note) (not_bad Note) e in
-          let b = this (leb (characters (take first s)) 5) _ (Bad Note) (not_bad Note) a.1 in
+          let a = other (blank (take first s)) _ (Err Note) (not_bad Note) e in
+          let b = this (leb (characters (take first s)) 5) _ (Err Note) (not_bad Note) a.1 in
           of_amounts (leb-true _ 5 b.0) _ _ refl refl b.1
 
-pub row-sound : (s : List ℕ) (p : Pallet) → parsed s ≡ Row p → Sound s p
+pub row-sound : (s : List ℕ) (p : Pallet) → parsed s ≡ Ok (Row p) → Sound s p
 unfolding parsed said well_formed
 row-sound s p e =
-    let a = other (ltb 200 (length s)) _ (Bad TooLong) (not_bad TooLong) e in
-    let b = this (well_formed s) _ (Bad NotUtf8) (not_bad NotUtf8) a.1 in
-    let d = other (controls s) _ (Bad Control) (not_bad Control) b.1 in
-    let f = other (eqb (length s) 0) _ Empty (λ x. let z : ◌≡◌ {A = ℕ} 0 1 = cc in omega arith) d.1 in
-    let g = other (eqb (get_or s 0 0) 35) _ Heading (λ x. let z : ◌≡◌ {A = ℕ} 0 1 = cc in omega arith) f.1 in
+    let a = other (ltb 200 (length s)) _ (Err TooLong) (not_bad TooLong) e in
+    let b = this (well_formed s) _ (Err NotUtf8) (not_bad NotUtf8) a.1 in
+    let d = other (controls s) _ (Err Control) (not_bad Control) b.1 in
+    let f = other (eqb (length s) 0) _ (Ok Empty) (λ x. let z : ◌≡◌ {A = ℕ} 0 1 = cc in omega arith) d.1 in
+    let g = other (eqb (get_or s 0 0) 35) _ (Ok Heading) (λ x. let z : ◌≡◌ {A = ℕ} 0 1 = cc in omega arith) f.1 in
     of_fields s p (ltb-false 200 (length s) a.0) b.0 g.1
 
 -- ---- the room it takes
@@ -204,5 +202,5 @@ module _ {s : List ℕ} {p : Pallet} (sound : Sound s p) where
       take_all 64 (fields s p) (simp (length-append, length-replicate) (omega (arith, sound.note)))
 
 -- what is put of a row into 64 blanks is all of it
-pub row-bytes : (s : List ℕ) (p : Pallet) → parsed s ≡ Row p → {out : List ℕ} {r : ℕ} → Adds (replicate 64 32) 0 (fields s p) out r → {part : List ℕ} → part ≡ take r out → part ≡ fields s p
+pub row-bytes : (s : List ℕ) (p : Pallet) → parsed s ≡ Ok (Row p) → {out : List ℕ} {r : ℕ} → Adds (replicate 64 32) 0 (fields s p) out r → {part : List ℕ} → part ≡ take r out → part ≡ fields s p
 row-bytes s p row {out} {r} adds is = is ∙ written_at 64 0 (fields s p) out r (omega arith) adds ∙ fields_fit (row-sound s p row)

@@ -3,7 +3,7 @@
 
 #![tactic(auto)]
 
-ghost use Rattle.std.specs.Prelude.{◌≡◌, ◌≤◌, length};
+ghost use Rattle.std.specs.Prelude.{◌≡◌, ◌≤◌, length, Ok};
 ghost use Rattle.results.specs.Pallets.{parsed};
 ghost use Rattle.results.specs.declared.Line.TheVariants.{Row};
 ghost use Rattle.buffer.specs.Placing.{Adds};
@@ -61,7 +61,7 @@ pub fn row(
     line: &[u8],
     p: Pallet,
 ) -> Made
-    requires { parsed line.now ≡ Row p }
+    requires { parsed line.now ≡ Ok (Row p) }
     ensures { Shares c table.old text.old shared
         → Gives c table.old text.old
         result table.new text.new
@@ -71,9 +71,8 @@ pub fn row(
     let n = put_row(&mut space, line, p);
     let (c, fixed) = leaf(c, table, text, front(&space, n))?;
     let (c, n) = ended(c, table, text, shared, fixed, line, p.remark)?;
-    let mark = label(p.grams, p.tenths);
-    if mark == 0 {
+    let Some(mark) = label(p.grams, p.tenths) else {
         return Ok((c, n));
-    }
-    c.annotate(table, text, n, mark)
+    };
+    c.annotate(table, text, n, u32::from(mark))
 }

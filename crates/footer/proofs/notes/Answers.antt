@@ -14,16 +14,16 @@ loop-at-init c =
     let a = c.args in
     (search rules, search rules, λ i j. none-added a.c a.table.now a.text.now comma_doc (out_notes (lines a.input.now)) a.none i)
 
-pub next_out-next-requires : goal.next_out-next-requires
-next_out-next-requires c = tt
+pub next_out-requires : goal.next_out-requires
+next_out-requires c = tt
 
-pub returns-in_err-after : goal.returns-in_err-after
-returns-in_err-after c =
-    λ i j. all-added (c.loop-at.invariant.2 i j) (no_more _ _ c.in_err-after.was c.next_out-next.ensures.1)
+pub returns-in_default : goal.returns-in_default
+returns-in_default c =
+    λ i j. all-added (c.loop-at.invariant.2 i j) (no_more _ _ c.in_default.is c.next_out.ensures.1)
 
 pub slice_bounds-add_word-count : goal.slice_bounds-add_word-count
 slice_bounds-add_word-count c =
-    let f = first_of _ _ c.in-Found.is c.next_out-next.ensures.1 in
+    let f = first_of _ _ c.in-Some.is c.next_out.ensures.1 in
     omega (arith, f.note)
 
 pub add_word-requires : goal.add_word-requires
@@ -34,17 +34,17 @@ returns-in_default-made c = λ i j. refused c.in_default-made.is
 
 pub overflow_add-at : goal.overflow_add-at
 overflow_add-at c =
-    let f = first_of _ _ c.in-Found.is c.next_out-next.ensures.1 in
+    let f = first_of _ _ c.in-Some.is c.next_out.ensures.1 in
     omega (arith, f.inside, c.well_formed.1.1.1.1.1.0)
 
 pub loop-at-smaller : goal.loop-at-smaller
 loop-at-smaller c =
-    let f = first_of _ _ c.in-Found.is c.next_out-next.ensures.1 in
+    let f = first_of _ _ c.in-Some.is c.next_out.ensures.1 in
     omega (arith, f.ahead, f.note, f.line)
 
 pub loop-at-preserved : goal.loop-at-preserved
 loop-at-preserved c =
-    let f = first_of _ _ c.in-Found.is c.next_out-next.ensures.1 in
+    let f = first_of _ _ c.in-Some.is c.next_out.ensures.1 in
     (search rules, search rules, λ i j. one-added (c.loop-at.invariant.2 i j) _ _ f.names c.add_word.ensures c.in_ok-after.was j)
 
 pub returns : goal.returns

@@ -1,43 +1,31 @@
 -- `results::fields` meets its contract: each separator is the first behind the one before. Assumes nothing.
+use Rattle.std.proofs.Common.{rules}
 use native.Mathlib.Omega.{arith}
-use Rattle.results.proofs.Saying.{no-force, no-pluck, no-remark, fields_are}
+use mathlib.Core.Path.{refl}
+use Rattle.results.proofs.Saying.{no-force, no-pluck, no-remark, fields_are, refused}
 use Rattle.results.proofs.fields.Goals as goal
 
-pub returns-then-s-first : goal.returns-then-s-first
-returns-then-s-first c = (no-force c.args.s.now c.part_end-first.result c.part_end-first.ensures c.if-s-first.true, tt)
+pub returns-in_err-first : goal.returns-in_err-first
+returns-in_err-first c =
+    let s = c.args.s.now in
+    refused s (search rules) (no-force s _ refl c.in_err-first.ensures.none.1)
 
-pub returns-then-s-second : goal.returns-then-s-second
-returns-then-s-second c =
-    (no-pluck c.args.s.now c.part_end-first.result c.part_end-first.ensures c.part_end-second.result c.part_end-second.ensures (omega arith) c.if-s-second.true, tt)
+pub returns-in_err-second : goal.returns-in_err-second
+returns-in_err-second c =
+    let s = c.args.s.now in
+    let a = c.in_ok-first.ensures.at in
+    refused s (search rules) (no-pluck s _ a.0 _ refl a.1 c.in_err-second.ensures.none.1)
 
-pub returns-then-s-third : goal.returns-then-s-third
-returns-then-s-third c = (
-  no-remark
-      c.args.s.now
-      c.part_end-first.result
-      c.part_end-first.ensures
-      c.part_end-second.result
-      c.part_end-second.ensures
-      (omega arith)
-      c.part_end-third.result
-      c.part_end-third.ensures
-      (omega arith)
-      c.if-s-third.true,
-  tt,
-)
+pub returns-in_err-third : goal.returns-in_err-third
+returns-in_err-third c =
+    let s = c.args.s.now in
+    let a = c.in_ok-first.ensures.at in
+    let b = c.in_ok-second.ensures.at in
+    refused s (search rules) (no-remark s _ a.0 _ b.0 a.1 _ refl b.1 c.in_err-third.ensures.none.1)
 
 pub returns : goal.returns
-returns c = (
-  fields_are
-      c.args.s.now
-      c.part_end-first.result
-      c.part_end-first.ensures
-      c.part_end-second.result
-      c.part_end-second.ensures
-      (omega arith)
-      c.part_end-third.result
-      c.part_end-third.ensures
-      (omega arith)
-      (omega arith),
-  (omega arith, omega arith, omega arith),
-)
+returns c =
+    let a = c.in_ok-first.ensures.at in
+    let b = c.in_ok-second.ensures.at in
+    let d = c.in_ok-third.ensures.at in
+    (fields_are c.args.s.now _ a.0 _ b.0 a.1 _ d.0 b.1 d.1, (omega (arith, a, b), omega (arith, b, d), d.1))

@@ -1,25 +1,28 @@
-use native.Mathlib.Omega.{arith}
-use mathlib.Core.Path.{sym, ◌∙◌}
-use Rattle.results.proofs.Walking.{none-counted, counted_none, counted-within, counted-out, counted-all}
+use Rattle.std.proofs.Common.{arith, sym, ◌∙◌}
+use Rattle.results.proofs.Walking.{counted-within-input, counted_none, counted-within, counted-out, counted-all}
 use Rattle.results.proofs.tolerance.count.Goals as goal
 
-pub loop-at-init : goal.loop-at-init
-loop-at-init c = (omega arith, omega arith, none-counted c.args.input.now)
+pub loop-line-preserved-in-NoRow : goal.loop-line-preserved-in-NoRow
+loop-line-preserved-in-NoRow c =
+    counted_none c.loop-line.invariant c.in-Some.ensures.steps (sym c.in-NoRow.is ∙ c.stands.ensures)
 
-pub loop-at-preserved-in-NoRow : goal.loop-at-preserved-in-NoRow
-loop-at-preserved-in-NoRow c =
-    let before = c.loop-at.invariant.2 in
-    (omega arith, omega arith, counted_none c.line_end-end.ensures (omega arith) before (sym c.in-NoRow.is ∙ c.line_stands-stands.ensures))
+pub overflow_add-rows : goal.overflow_add-rows
+overflow_add-rows c = omega (arith, counted-within-input c.loop-line.invariant)
 
-pub loop-at-preserved-in-Within : goal.loop-at-preserved-in-Within
-loop-at-preserved-in-Within c =
-    let before = c.loop-at.invariant.2 in
-    (omega arith, omega arith, counted-within c.line_end-end.ensures (omega arith) before (sym c.in-Within.is ∙ c.line_stands-stands.ensures))
+pub loop-line-preserved-in-Within : goal.loop-line-preserved-in-Within
+loop-line-preserved-in-Within c =
+    counted-within c.loop-line.invariant c.in-Some.ensures.steps (sym c.in-Within.is ∙ c.stands.ensures)
 
-pub loop-at-preserved : goal.loop-at-preserved
-loop-at-preserved c =
-    let before = c.loop-at.invariant.2 in
-    (omega arith, omega arith, counted-out c.line_end-end.ensures (omega arith) before (sym c.in-Out.is ∙ c.line_stands-stands.ensures))
+pub overflow_add-rows-in-Out : goal.overflow_add-rows-in-Out
+overflow_add-rows-in-Out c = omega (arith, counted-within-input c.loop-line.invariant)
+
+pub overflow_add-out : goal.overflow_add-out
+overflow_add-out c = omega (arith, counted-within-input c.loop-line.invariant)
+
+pub loop-line-preserved : goal.loop-line-preserved
+loop-line-preserved c =
+    counted-out c.loop-line.invariant c.in-Some.ensures.steps (sym c.in-Out.is ∙ c.stands.ensures)
 
 pub returns : goal.returns
-returns c = counted-all (omega arith) c.loop-at.invariant.2
+returns c =
+    counted-all c.loop-line.invariant c.in-None.ensures.steps.0

@@ -1,32 +1,27 @@
-use native.Mathlib.Omega.{arith}
-use mathlib.Core.Path.{sym, ◌∙◌}
-use Rattle.results.proofs.Walking.{none_passed, passed_none, passed-within, note-within, found, found_none}
+use Rattle.std.proofs.Common.{arith, sym, ◌∙◌}
+use Rattle.results.proofs.Walking.{line_within, passed-by, note-within, found, found_none}
 use Rattle.results.proofs.tolerance.next_out.Goals as goal
 
-pub loop-at-init : goal.loop-at-init
-loop-at-init c = none_passed c.args.input.now c.args.from
-
-pub loop-at-preserved-in-NoRow : goal.loop-at-preserved-in-NoRow
-loop-at-preserved-in-NoRow c =
-    passed_none c.line_end-end.ensures (omega arith) c.loop-at.invariant (sym c.in-NoRow.is ∙ c.line_stands-stands.ensures)
-
-pub loop-at-preserved : goal.loop-at-preserved
-loop-at-preserved c =
-    passed-within c.line_end-end.ensures (omega arith) c.loop-at.invariant (sym c.in-Within.is ∙ c.line_stands-stands.ensures)
+pub overflow_add-end : goal.overflow_add-end
+overflow_add-end c =
+    omega (arith, line_within c.loop-line.invariant c.in-Some.ensures.steps)
 
 pub overflow_add-result : goal.overflow_add-result
 overflow_add-result c =
-    omega (arith, note-within c.line_end-end.ensures (omega arith) c.loop-at.invariant c.part_end-note.result (omega (arith, c.part_end-note.ensures)))
+    omega (arith, line_within c.loop-line.invariant c.in-Some.ensures.steps, note-within c.loop-line.invariant c.in-Some.ensures.steps c.part_end-note.result (omega (arith, c.part_end-note.ensures)))
 
 pub returns-in-Out : goal.returns-in-Out
 returns-in-Out c =
-    found
-    c.line_end-end.ensures
-    (omega arith)
-    c.loop-at.invariant
-    c.part_end-note.result
-    (omega (arith, c.part_end-note.ensures))
-    (sym c.in-Out.is ∙ c.line_stands-stands.ensures)
+    found c.loop-line.invariant c.in-Some.ensures.steps c.part_end-note.result (omega (arith, c.part_end-note.ensures)) (sym c.in-Out.is ∙ c.stands.ensures)
+
+pub overflow_add-start : goal.overflow_add-start
+overflow_add-start c =
+    omega (arith, line_within c.loop-line.invariant c.in-Some.ensures.steps)
+
+pub loop-line-preserved : goal.loop-line-preserved
+loop-line-preserved c =
+    passed-by c.loop-line.invariant c.in-Some.ensures.steps _ c.stands.ensures c.in_default.not-Out
 
 pub returns : goal.returns
-returns c = found_none (omega arith) c.loop-at.invariant
+returns c =
+    found_none c.loop-line.invariant c.in-None.ensures.steps.0
