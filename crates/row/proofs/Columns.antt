@@ -8,6 +8,9 @@ use mathlib.Core.Path.{◌≡◌, refl, ap, ◌∙◌, subst}
 use mathlib.Core.List.{List, [], ◌∷◌, ◌++◌}
 use lib.ListN.{length, take, drop, replicate}
 use borrow.Author.Tests.{eq-eqb, ne_eqb}
+use Rattle.results.specs.declared.tolerance.Mark.{Mark}
+use Rattle.results.specs.declared.tolerance.Mark.TheVariants.{Force, Pluck, Both}
+use Rattle.results.specs.Marks.{number_of}
 use Rattle.table.specs.Document.{Doc, annotated}
 use Rattle.buffer.specs.Parts.{index_of, characters}
 use Rattle.results.specs.declared.Pallet.{Pallet}
@@ -75,3 +78,9 @@ module _ (label k : ℕ) (e : label ≡ k) (d : Doc) where
   pub marked-some : (label ≡ 0 → ⊥) → annotated d label ≡ marked_doc k d
   unfolding marked_doc
   marked-some z = rw (← e, ne_eqb label 0 z)
+
+-- a mark's label is none of 0
+pub some-mark : (m : Mark) → number_of m ≡ 0 → ⊥
+some-mark Force e = let z : ◌≡◌ {A = ℕ} 1 0 = e in absurd (omega arith)
+some-mark Pluck e = let z : ◌≡◌ {A = ℕ} 2 0 = e in absurd (omega arith)
+some-mark Both e = let z : ◌≡◌ {A = ℕ} 3 0 = e in absurd (omega arith)

@@ -1,9 +1,11 @@
 -- `row::row` meets its contract. Assumes nothing.
-use mathlib.Core.Path.{refl, ap}
+use mathlib.Core.Path.{refl, sym, ap, ◌∙◌}
+use Rattle.build.specs.Outcome.{Made, outcome}
+use Rattle.results.specs.Marks.{label_number}
 use Rattle.words.proofs.Chain.{new, shares-kept, after, refused, gives, annotates}
 use Rattle.words.specs.Documents.{leaf_doc}
 use Rattle.row.specs.Documents.{row_doc}
-use Rattle.row.proofs.Columns.{marked-none, marked-some}
+use Rattle.row.proofs.Columns.{marked-none, marked-some, some-mark}
 use Rattle.row.proofs.Uncut.{row-sound, row-bytes}
 use Rattle.row.proofs.row.Goals as goal
 
@@ -16,35 +18,30 @@ leaf-requires c = tt
 pub returns-in_err-c : goal.returns-in_err-c
 returns-in_err-c c = λ s. refused c.from_residual.result _ c.from_residual.ensures.1
 
-pub ended-made-requires : goal.ended-made-requires
-ended-made-requires c =
+pub ended-requires : goal.ended-requires
+ended-requires c =
     (row-sound _ _ c.requires).short
 
-pub label-mark-requires : goal.label-mark-requires
-label-mark-requires c = tt
+pub returns-in_err-c-2 : goal.returns-in_err-c-2
+returns-in_err-c-2 c = λ s. refused c.from_residual-in_err-c-2.result _ c.from_residual-in_err-c-2.ensures.1
 
-pub returns-then-mark-eq0 : goal.returns-then-mark-eq0
+pub returns-in_default : goal.returns-in_default
 unfolding row_doc
-returns-then-mark-eq0 c =
+returns-in_default c =
     let is = row-bytes _ _ c.requires c.put_row-n.ensures c.front.ensures in
     λ s.
     gives
-    refl
-    (marked-none c.label-mark.result _ c.label-mark.ensures _ c.if-mark-eq0.true)
-    (after (gives refl (ap leaf_doc is) c.leaf.ensures) c.in_ok-c.was (λ b. c.ended-made.ensures _ (shares-kept b s) (new b)))
-
-pub returns-in_default-made : goal.returns-in_default-made
-returns-in_default-made c = λ s. refused c.in_default-made.is
-
-pub annotate-requires : goal.annotate-requires
-annotate-requires c = tt
+    (ap (λ (m : Made). outcome m c.ended.new.table c.ended.new.text) (sym c.in_ok-c-2.was))
+    (marked-none (label_number c.label.result) _ c.label.ensures _ (ap label_number c.in_default.is))
+    (after (gives refl (ap leaf_doc is) c.leaf.ensures) c.in_ok-c.was (λ b. c.ended.ensures _ (shares-kept b s) (new b)))
 
 pub returns : goal.returns
 unfolding row_doc
 returns c =
     let is = row-bytes _ _ c.requires c.put_row-n.ensures c.front.ensures in
+    let mark = sym (ap label_number c.in-Some.is) ∙ c.label.ensures in
     λ s.
     gives
     refl
-    (marked-some c.label-mark.result _ c.label-mark.ensures _ c.if-mark-eq0.false)
-    (after (gives refl (ap leaf_doc is) c.leaf.ensures) c.in_ok-c.was (λ b. after (c.ended-made.ensures _ (shares-kept b s) (new b)) c.in-Node-made.is (λ q. annotates (new q) c.label-mark.result c.annotate.ensures)))
+    (marked-some c.from.result _ (c.from.ensures ∙ mark) _ (λ z. some-mark _ (sym c.from.ensures ∙ z)))
+    (after (gives refl (ap leaf_doc is) c.leaf.ensures) c.in_ok-c.was (λ b. after (c.ended.ensures _ (shares-kept b s) (new b)) c.in_ok-c-2.was (λ q. annotates (new q) c.from.result c.annotate.ensures)))
