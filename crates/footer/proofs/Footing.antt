@@ -1,7 +1,7 @@
 -- The laws of the footer: what it says of all rows, and of the notes out of tolerance, which are a block.
 --     said_of-all              the bytes of a sentence with a number in it
 --     within-.., told-.., footer-..    each case
---     no_more, no_notes        no note to come
+--     no_more                  no note to come
 --     blocks                   the block of a body between an affix before it and one behind it
 -- Assumes nothing.
 use Prim.Native.Nat.{ℕ, ◌+◌, ◌≤◌}
@@ -84,9 +84,6 @@ module _ {rows : ℕ} (ls : List (List ℕ)) where
 pub no_more : {r : Option Out} (s : List ℕ) (at : ℕ) → r ≡ None → Names r s at → out_notes (lines (drop at s)) ≡ []
 no_more s at e n = subst (λ (r : Option Out). Names r s at) e n
 
-pub no_notes : (s : List ℕ) (at : ℕ) → length s ≤ at → out_notes (lines (drop at s)) ≡ []
-unfolding out_notes lines
-no_notes s at h = rw (done s at h)
 
 -- ---- the block
 

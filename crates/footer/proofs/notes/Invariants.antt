@@ -1,5 +1,5 @@
 -- `footer::notes` meets its contract: the notes so far and those to come are all. Assumes nothing.
-use Prim.Native.Nat.{ℕ, ◌-◌}
+use Prim.Native.Nat.{ℕ, ◌+◌, ◌-◌}
 use mathlib.Core.Path.{◌≡◌}
 use mathlib.Core.List.{List, map}
 use lib.ListN.{length, drop}
@@ -13,8 +13,8 @@ use Rattle.words.specs.Build.{Is}
 use Rattle.words.proofs.Filling.{Adding}
 use Rattle.footer.proofs.notes.Given as goal
 
-abbrev pub invariant-loop-at : goal.invariant-loop-at
-invariant-loop-at l =
+abbrev pub invariant-loop-out : goal.invariant-loop-out
+invariant-loop-out l =
     let text_of = λ (notes : List (List ℕ)). intersperse_doc (map leaf_doc notes) comma_doc in
     let all = out_notes (lines l.input) in
     let to_come = out_notes (lines (drop l.at l.input)) in
@@ -26,5 +26,5 @@ invariant-loop-at l =
     → Is l.initial.c l.initial.table l.initial.text l.comma comma_doc
     → Adding l.initial.c l.initial.table l.initial.text comma_doc (text_of all) to_come l.c l.table l.text l.n l.between)
 
-abbrev pub decreases-loop-at : goal.decreases-loop-at
-decreases-loop-at l = length l.input - l.at
+abbrev pub decreases-loop-out : goal.decreases-loop-out
+decreases-loop-out l = (length l.input + 1) - l.at
