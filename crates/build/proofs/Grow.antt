@@ -94,19 +94,6 @@ text-grown s bytes columns =
 
 -- ---- composed
 
-pub line-grown : (s : Draft) → Grown s (line s).draft
-unfolding line
-line-grown s =
-    let h = (hardline s).draft in
-    let b = (space h).draft in
-    then (add-grown s 5 0 0 0) (then (text-grown h (32 ∷ []) 1) (add-grown b 3 _ _ 0))
-
-pub line₀-grown : (s : Draft) → Grown s (line₀ s).draft
-unfolding line₀
-line₀-grown s =
-    let h = (hardline s).draft in
-    then (add-grown s 5 0 0 0) (then (add-grown h 0 0 0 0) (add-grown (nil h).draft 3 _ _ 0))
-
 pub hang-grown : (s : Draft) (n amount way : ℕ) → Grown s (hang s n amount way).draft
 unfolding hang
 hang-grown s n amount way = then (nest-grown s n amount way) (add-grown (nest s n amount way).draft 9 _ 0 0)

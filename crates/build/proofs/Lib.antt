@@ -2,6 +2,7 @@
 pub mod Grow
 pub mod Room
 pub mod Stand
+mod Handed
 mod Runs
 mod Words
 mod Choices

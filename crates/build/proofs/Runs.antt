@@ -41,6 +41,3 @@ words-put table at k a b c h =
     let four : List ℕ = k ∷ a ∷ b ∷ c ∷ [] in
     let e : length (take at table ++ four) ≡ at + 4 = simp (length-append, length-take) (omega arith) in
     rw (add-one at, add-two at, add-three at) (sets-eq four table at (omega arith) ∙ ap (λ (n : ℕ). take at table ++ four ++ drop n table) (sym e))
-
-pub part_length : (xs : List ℕ) (from size : ℕ) → from + size ≤ length xs → length (take size (drop from xs)) ≡ size
-part_length xs from size h = simp (length-take, length-drop) (omega arith)

@@ -127,10 +127,7 @@ impl Counts {
     pub fn ask(self, words: usize, bytes: usize, asks: Asks) -> Result<(), Why>
         ensures { result ≡ asked_for self words bytes asks }
     {
-        if words / 4 < self.nodes as usize {
-            return Err(Why::Sizes);
-        }
-        if bytes < self.bytes as usize {
+        if words / 4 < self.nodes as usize || bytes < self.bytes as usize {
             return Err(Why::Sizes);
         }
         if !asks.present {
