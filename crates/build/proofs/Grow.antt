@@ -13,7 +13,7 @@ use lib.ListN.{length, length-append}
 use lib.Dec.{eqb}
 use Rattle.choice.specs.Pick.{pick}
 use Rattle.build.specs.Draft.{Draft, Built, older, add, write}
-use Rattle.build.specs.Parts.{is_nil, stays, nil, append, group, nest, hardline, text, space, line, line₀, hang, joined}
+use Rattle.build.specs.Parts.{is_nil, stays, nil, append, group, nest, text, hang, joined}
 
 -- counts say how long table and text are
 pub record Whole (s : Draft) : Type 0 where

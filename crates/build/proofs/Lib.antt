@@ -3,7 +3,7 @@ pub mod Grow
 pub mod Room
 pub mod Stand
 mod Handed
-mod Runs
+mod Counting
 mod Words
 mod Choices
 mod Stays
