@@ -13,7 +13,7 @@ use lib.ListN.{length, length-append}
 use lib.Dec.{eqb}
 use Rattle.choice.specs.Pick.{pick}
 use Rattle.build.specs.Draft.{Draft, Built, older, add, write}
-use Rattle.build.specs.Parts.{is_nil, stays, nil, append, group, nest, hardline, text, space, line, line₀, hang, joined}
+use Rattle.build.specs.Parts.{is_nil, stays, nil, append, group, nest, text, hang, joined}
 
 -- counts say how long table and text are
 pub record Whole (s : Draft) : Type 0 where
@@ -93,19 +93,6 @@ text-grown s bytes columns =
     (then (write-grown s bytes) (add-grown (write s bytes) 6 s.counts.bytes (length bytes) columns))
 
 -- ---- composed
-
-pub line-grown : (s : Draft) → Grown s (line s).draft
-unfolding line
-line-grown s =
-    let h = (hardline s).draft in
-    let b = (space h).draft in
-    then (add-grown s 5 0 0 0) (then (text-grown h (32 ∷ []) 1) (add-grown b 3 _ _ 0))
-
-pub line₀-grown : (s : Draft) → Grown s (line₀ s).draft
-unfolding line₀
-line₀-grown s =
-    let h = (hardline s).draft in
-    then (add-grown s 5 0 0 0) (then (add-grown h 0 0 0 0) (add-grown (nil h).draft 3 _ _ 0))
 
 pub hang-grown : (s : Draft) (n amount way : ℕ) → Grown s (hang s n amount way).draft
 unfolding hang

@@ -3,7 +3,8 @@ pub mod Handed
 pub mod Grow
 pub mod Room
 pub mod Stand
-mod Runs
+mod Handed
+mod Counting
 mod Words
 mod Choices
 mod Stays

@@ -2,14 +2,14 @@
 --     text-counts, text-present     one node, its bytes, and a node that is there
 --     text_denied, text-node-room, text_byte-room     refused; room for the node and for its bytes
 --     text-empty, text-full         a Nil, or the bytes behind those that stand
---     blanks-length, blanks-made    a Text of so many blanks
+--     blanks-made                   a Text of so many blanks
 -- Assumes nothing.
 use Prim.Native.Nat.{ℕ, ◌+◌, ◌*◌, ◌≤◌, ◌<◌}
 use native.Mathlib.Omega.{arith}
 use mathlib.Core.Path.{◌≡◌, refl, sym, ap, ◌∙◌}
 use mathlib.Core.Bool.{Bool, true, false}
 use mathlib.Core.List.{List, [], ◌∷◌, ◌++◌}
-use lib.ListN.{length, take, drop, replicate, length-append, length-take, length-replicate}
+use lib.ListN.{length, take, drop, replicate, length-append, length-take}
 use lib.Seq.{take-length}
 use lib.Dec.{eqb}
 use borrow.Author.Tests.{eqb-true, eq-eqb, ne_eqb}
@@ -120,9 +120,6 @@ module _ (c : Counts) (table letters bytes : List ℕ) (columns : ℕ) {right : 
 -- ---- so many of a thousand blanks
 
 module _ (by : ℕ) (few : by ≤ 1000) where
-  pub blanks-length : by ≡ length {A = ℕ} (take by (replicate 1000 32))
-  blanks-length = sym (ap length (take-replicate by 1000 32 few) ∙ length-replicate {A = ℕ} by 32)
-
   module _ (c : Counts) (table letters : List ℕ) where
     pub blanks-made : {columns : ℕ} → columns ≡ by → {r : Outcome} → r ≡ text_made c table letters (take by (replicate 1000 32)) columns
         → r ≡ text_made c table letters (replicate by 32) by

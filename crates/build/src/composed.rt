@@ -33,7 +33,7 @@ impl Counts {
     }
 
     // The same with a Nil for the blank.
-    // kept: one function for both would need the text lent to what stands flat and to FlatAlt at once; `line_` lends it as `&` only.
+    // kept: `line_` lends its text as `&` and `line` as `&mut`, which no one parameter or closure serves; what both share is `node`.
     fn broken_or_nil(self, table: &mut [u32], text: &[u8], nodes: usize) -> Made
         requires { 3 ≤ nodes }
         ensures { outcome result table.new text.now

@@ -116,10 +116,7 @@ fn put(table: &mut [u32], n: usize, words: Words)
         ≡ over (take (n * 4) table.old ++ (words.kind ∷ words.a ∷ words.b ∷ words.c ∷ [])) table.old }
 {
     let at = n * 4;
-    table[at] = words.kind;
-    table[at + 1] = words.a;
-    table[at + 2] = words.b;
-    table[at + 3] = words.c;
+    table[at..at + 4].copy_from_slice(&[words.kind, words.a, words.b, words.c]);
 }
 
 impl Counts {
@@ -127,10 +124,7 @@ impl Counts {
     pub fn ask(self, words: usize, bytes: usize, asks: Asks) -> Result<(), Why>
         ensures { result ≡ asked_for self words bytes asks }
     {
-        if words / 4 < self.nodes as usize {
-            return Err(Why::Sizes);
-        }
-        if bytes < self.bytes as usize {
+        if words / 4 < self.nodes as usize || bytes < self.bytes as usize {
             return Err(Why::Sizes);
         }
         if !asks.present {
@@ -156,15 +150,10 @@ impl Counts {
         requires { i < 4 }
         ensures { result ≡ word (take (self.nodes * 4) table.now) n.0 i }
     {
-        let n = n.0;
-        let at = n as usize * 4 + i;
-        if self.nodes <= n {
+        if !self.has(n) {
             return 0;
         }
-        if table.len() <= at {
-            return 0;
-        }
-        table[at]
+        table.get(n.0 as usize * 4 + i).copied().unwrap_or(0)
     }
 
     // By the kind word alone.

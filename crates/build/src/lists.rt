@@ -90,6 +90,7 @@ impl Counts {
     }
 
     // The separator between each two.
+    // kept: one function with `concat` would ask at each of its steps (operands, how many nodes, what is joined) whether a separator is.
     pub fn intersperse(
         self,
         table: &mut [u32],

@@ -1,5 +1,5 @@
 -- `broken_or_blank`, part by part.
-use Rattle.std.proofs.lemmas.Result.{err_from_is_err_and}
+use Rattle.build.proofs.Handed.{handed_outcome}
 use mathlib.Core.Path.{refl}
 use Rattle.build.specs.Parts.{line}
 use Rattle.build.proofs.Lines.{space_one, line_refused, line_made_lem}
@@ -10,8 +10,7 @@ unfolding line
 returns-in_err-c c =
     let args = c.args in
     let first = rw (c.of.ensures, c.words_of.ensures) at c.in_err-c.ensures in
-    let handed = err_from_is_err_and c.from_residual.result c.from_residual.ensures.1 in
-    rw (handed.1, handed.2)
+    handed_outcome c.from_residual.result c.from_residual.ensures.1
     (line_refused args.self args.table.now args.text.now space_one args.nodes c.requires first refl)
 
 pub returns-in_err-c-2 : goal.returns-in_err-c-2
@@ -19,8 +18,7 @@ unfolding line
 returns-in_err-c-2 c =
     let args = c.args in
     let first = rw (c.of.ensures, c.words_of.ensures) at c.in_ok-c.ensures in
-    let handed = err_from_is_err_and c.from_residual-in_err-c-2.result c.from_residual-in_err-c-2.ensures.1 in
-    rw (handed.1, handed.2)
+    handed_outcome c.from_residual-in_err-c-2.result c.from_residual-in_err-c-2.ensures.1
     (line_made_lem args.self args.table.now args.text.now space_one args.nodes c.requires first refl _ _ _ c.in_err-c-2.ensures refl)
 
 pub returns : goal.returns

@@ -1,6 +1,6 @@
 -- `concat`: of none one Nil, else the first with the others joined to it.
 use mathlib.Core.Path.{refl, sym, ◌∙◌}
-use Rattle.std.proofs.lemmas.Result.{err_from_is_err_and}
+use Rattle.build.proofs.Handed.{handed_outcome}
 use Rattle.build.proofs.Joins.{join-refused}
 use Rattle.build.proofs.Concats.{concat-none, concat-made, concat-turn, concat-end}
 use Rattle.build.proofs.Counts.concat.Goals as goal
@@ -14,8 +14,7 @@ pub returns-in_err-made : goal.returns-in_err-made
 returns-in_err-made c =
     let args = c.args in
     let first = rw (c.of.ensures, c.has_all-present.ensures, c.saturating_sub-more.ensures, c.solid.ensures) at c.in_err-made.ensures in
-    let handed = err_from_is_err_and c.from_residual.result c.from_residual.ensures.1 in
-    rw (handed.1, handed.2)
+    handed_outcome c.from_residual.result c.from_residual.ensures.1
     (sym (join-refused _ _ _ _) ∙ concat-made args.self args.table.now args.text.now c.in-Some.ensures.cases.0 first)
 
 pub loop-n-init : goal.loop-n-init
@@ -27,8 +26,7 @@ loop-n-init c =
 pub returns-in_err-made-2 : goal.returns-in_err-made-2
 returns-in_err-made-2 c =
     let now = c.loop-n in
-    let handed = err_from_is_err_and c.from_residual-in_err-made-2.result c.from_residual-in_err-made-2.ensures.1 in
-    rw (handed.1, handed.2)
+    handed_outcome c.from_residual-in_err-made-2.result c.from_residual-in_err-made-2.ensures.1
     (sym (join-refused _ _ _ _)
     ∙ concat-turn _ now.table c.args.text.now c.in-Some.rest.now now.n-index c.loop-n-test.true c.in_err-made-2.ensures
     ∙ now.invariant.joins)

@@ -1,5 +1,5 @@
 -- `hang`, part by part.
-use Rattle.std.proofs.lemmas.Result.{err_from_is_err_and}
+use Rattle.build.proofs.Handed.{handed_outcome}
 use mathlib.Core.Path.{refl}
 use Rattle.build.specs.Draft.{counted}
 use Rattle.build.proofs.Hangs.{hang-refused, hang-made}
@@ -9,8 +9,7 @@ pub returns-in_err-c : goal.returns-in_err-c
 unfolding counted
 returns-in_err-c c =
     let args = c.args in
-    let handed = err_from_is_err_and c.from_residual.result c.from_residual.ensures.1 in
-    rw (handed.1, handed.2)
+    handed_outcome c.from_residual.result c.from_residual.ensures.1
     (hang-refused args.self args.table.now args.text.now args.n.0 args.amount.0 args.way c.in_err-c.ensures refl)
 
 pub returns : goal.returns

@@ -1,6 +1,6 @@
 -- `intersperse`: of none one Nil, else the first with a separator and each of the others joined to it.
 use mathlib.Core.Path.{refl, sym, ◌∙◌}
-use Rattle.std.proofs.lemmas.Result.{err_from_is_err_and}
+use Rattle.build.proofs.Handed.{handed_outcome}
 use Rattle.build.proofs.Leaf.{by-operands}
 use Rattle.build.proofs.Joins.{join-refused}
 use Rattle.build.proofs.Separated.{intersperse-none, intersperse-made, intersperse-turn, intersperse-end}
@@ -16,8 +16,7 @@ pub returns-in_err-made : goal.returns-in_err-made
 returns-in_err-made c =
     let args = c.args in
     let first = rw (c.of.ensures, c.has_with-present.ensures, c.separated_adds-more.ensures) at c.in_err-made.ensures in
-    let handed = err_from_is_err_and c.from_residual.result c.from_residual.ensures.1 in
-    rw (handed.1, handed.2)
+    handed_outcome c.from_residual.result c.from_residual.ensures.1
     (sym (join-refused _ _ _ _) ∙ intersperse-made args.self args.table.now args.text.now c.in-Some.ensures.cases.0 args.separator.0 first)
 
 pub loop-n-init : goal.loop-n-init
@@ -30,8 +29,7 @@ pub returns-in_err-c : goal.returns-in_err-c
 returns-in_err-c c =
     let args = c.args in
     let now = c.loop-n in
-    let handed = err_from_is_err_and c.from_residual-in_err-c.result c.from_residual-in_err-c.ensures.1 in
-    rw (handed.1, handed.2)
+    handed_outcome c.from_residual-in_err-c.result c.from_residual-in_err-c.ensures.1
     (sym (join-refused _ _ _ _)
     ∙ intersperse-turn _ _ now.table _ args.text.now args.separator.0 c.in-Some.rest.now now.n-index c.loop-n-test.true c.in_err-c.ensures refl
     ∙ now.invariant.joins)
@@ -40,8 +38,7 @@ pub returns-in_err-made-2 : goal.returns-in_err-made-2
 returns-in_err-made-2 c =
     let args = c.args in
     let now = c.loop-n in
-    let handed = err_from_is_err_and c.from_residual-in_err-made-2.result c.from_residual-in_err-made-2.ensures.1 in
-    rw (handed.1, handed.2)
+    handed_outcome c.from_residual-in_err-made-2.result c.from_residual-in_err-made-2.ensures.1
     (sym (join-refused _ _ _ _)
     ∙ intersperse-turn _ _ now.table _ args.text.now args.separator.0 c.in-Some.rest.now now.n-index c.loop-n-test.true c.in_ok-c.ensures c.in_err-made-2.ensures
     ∙ now.invariant.joins)

@@ -1,5 +1,5 @@
 -- `softline`: a line and its group.
-use Rattle.std.proofs.lemmas.Result.{err_from_is_err_and}
+use Rattle.build.proofs.Handed.{handed_outcome}
 use mathlib.Core.Path.{refl}
 use Rattle.build.specs.Parts.{line, softline}
 use Rattle.build.proofs.Lines.{space_one}
@@ -10,8 +10,7 @@ pub returns-in_err-c : goal.returns-in_err-c
 unfolding line softline
 returns-in_err-c c =
     let args = c.args in
-    let handed = err_from_is_err_and c.from_residual.result c.from_residual.ensures.1 in
-    rw (handed.1, handed.2)
+    handed_outcome c.from_residual.result c.from_residual.ensures.1
     (soft-made args.self args.table.now args.text.now space_one _ _ _ c.in_err-c.ensures refl)
 
 pub returns : goal.returns

@@ -1,7 +1,7 @@
 -- `solid`: counts what is no Nil.
 use Rattle.std.proofs.Common.{rules, sym, ◌∙◌, ◌≡◌, not, eqb, take, ◌*◌, count_by}
 use Rattle.table.specs.Node.{word}
-use Rattle.build.proofs.Runs.{solid_is}
+use Rattle.build.proofs.Counting.{solid_is}
 use Rattle.build.proofs.Counts.solid.Goals as goal
 
 pub returns : goal.returns

@@ -1,6 +1,6 @@
 -- `text`: one node and its bytes.
 use native.Mathlib.Omega.{arith}
-use Rattle.std.proofs.lemmas.Result.{err_from_is_err_and}
+use Rattle.build.proofs.Handed.{handed_outcome}
 use Rattle.build.proofs.Texts.{text_denied, text-node-room, text_byte-room, text-empty, text-full}
 use Rattle.build.proofs.Counts.text.Goals as goal
 
@@ -8,8 +8,7 @@ pub returns-in_err-ask : goal.returns-in_err-ask
 returns-in_err-ask c =
     let args = c.args in
     let asked = rw c.of.ensures at c.in_err-ask.ensures in
-    let handed = err_from_is_err_and c.from_residual.result c.from_residual.ensures.1 in
-    rw (handed.1, handed.2)
+    handed_outcome c.from_residual.result c.from_residual.ensures.1
     (text_denied args.self args.table.now args.text.now args.bytes.now args.columns.0 c.columns_right-right.ensures asked)
 
 pub add-requires : goal.add-requires
