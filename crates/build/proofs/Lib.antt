@@ -3,7 +3,6 @@ pub mod Handed
 pub mod Grow
 pub mod Room
 pub mod Stand
-mod Handed
 mod Counting
 mod Words
 mod Choices

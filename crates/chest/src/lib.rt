@@ -16,7 +16,8 @@ ghost use Rattle.footer.specs.Documents.{footer_doc};
 ghost use Rattle.words.specs.Build.{Is, Shares, Gives};
 ghost use Rattle.chest.specs.Build.{Joined, Shows};
 
-use buffer::parts::{behind, body_end, line_end};
+use buffer::lines::{Lines, body};
+use buffer::parts::behind;
 use build::{Counts, Made, Why};
 use footer::footer;
 use results::{Line, parse};
@@ -34,9 +35,6 @@ pub enum NoRoom {
 
 // The sheet's node with the counts, or what has no room.
 pub type Built = Result<(Counts, NodeNo), NoRoom>;
-
-// All lines with how many they are, or the first that doesn't fit.
-type Lines = Result<(Counts, NodeNo, usize), NoRoom>;
 
 // A heading, filled.
 fn heading(c: Counts, table: &mut [u32], text: &mut [u8], shared: Shared, s: &[u8]) -> Made
@@ -59,12 +57,13 @@ fn part(c: Counts, table: &mut [u32], text: &mut [u8], shared: Shared, line: &[u
 {
     let none = shared.none;
     let hardline = shared.hardline;
-    let says = parse(line);
+    let Ok(says) = parse(line) else {
+        return Ok((c, none));
+    };
     match says {
-        Ok(Line::Row(p)) => row(c, table, text, shared, line, p),
-        Ok(Line::Heading) => heading(c, table, text, shared, behind(line, 1)),
-        Ok(Line::Empty) => Ok((c, hardline)),
-        Err(_) => Ok((c, none)),
+        Line::Row(p) => row(c, table, text, shared, line, p),
+        Line::Heading => heading(c, table, text, shared, behind(line, 1)),
+        Line::Empty => Ok((c, hardline)),
     }
 }
 
@@ -84,31 +83,36 @@ fn added(
         result table.new text.new
         (append_doc d (part_doc line.now)) }
 {
-    let body = body_end(line);
-    let (c, one) = part(c, table, text, shared, &line[..body])?;
+    let (c, one) = part(c, table, text, shared, body(line))?;
     c.append(table, text, n, one)
 }
 
-// Adds the lines of the input in order.
-fn add_lines(c: Counts, table: &mut [u32], text: &mut [u8], shared: Shared, input: &[u8]) -> Lines
+// Adds the lines of the input in order; gives how many they are too, or the first that doesn't fit.
+fn add_lines(
+    c: Counts,
+    table: &mut [u32],
+    text: &mut [u8],
+    shared: Shared,
+    input: &[u8],
+) -> Result<(Counts, NodeNo, usize), NoRoom>
     ensures { ValidSoFar c table.old text.old
         → Shares c table.old text.old shared
         → Joined input.now shared result table.new text.new }
 {
     let mut c = c;
     let mut n = shared.none;
-    let mut line = 0;
-    let mut at = 0;
-    while at < input.len() {
-        let end = line_end(input, at);
-        let made = added(c, table, text, shared, n, &input[at..end]);
-        line += 1;
-        at = end + 1;
-        let (next, joined) = made.map_err(|why| NoRoom::Line(line, why))?;
-        c = next;
-        n = joined;
+    let mut count = 0;
+    for line in Lines::new(input) {
+        count += 1;
+        match added(c, table, text, shared, n, line) {
+            Ok((next, joined)) => {
+                c = next;
+                n = joined;
+            }
+            Err(why) => return Err(NoRoom::Line(count, why)),
+        }
     }
-    Ok((c, n, line))
+    Ok((c, n, count))
 }
 
 // The sheet with its footer.
@@ -138,13 +142,18 @@ fn whole(c: Counts, table: &mut [u32], text: &mut [u8], shared: Shared, input: &
         → Shows input.now result table.new text.new }
 {
     let (c, n, last) = add_lines(c, table, text, shared, input)?;
-    footed(c, table, text, shared, n, input).map_err(|why| NoRoom::Footer(last, why))
+    match footed(c, table, text, shared, n, input) {
+        Ok(sheet) => Ok(sheet),
+        Err(why) => Err(NoRoom::Footer(last, why)),
+    }
 }
 
 // The sheet of an input without faults; a line at fault adds nothing. Line 0 is the one that doesn't fit where not even the shared nodes do.
 pub fn build(input: &[u8], table: &mut [u32], text: &mut [u8]) -> Built
     ensures { Shows input.now result table.new text.new }
 {
-    let (c, shared) = share(table, text).map_err(|why| NoRoom::Line(0, why))?;
-    whole(c, table, text, shared, input)
+    match share(table, text) {
+        Ok((c, shared)) => whole(c, table, text, shared, input),
+        Err(why) => Err(NoRoom::Line(0, why)),
+    }
 }

@@ -1,27 +1,25 @@
-use borrow.Author.Rules.{rules}
-use native.Mathlib.Omega.{arith}
-use Rattle.chest.proofs.Sheets.{count_next, none_lined, one_lined, all_lined}
+-- `chest::add_lines` meets its contract. Assumes nothing.
+use Rattle.std.proofs.Common.{rules, arith, ap, sym, ◌∙◌, length, ◌+◌, ◌≡◌, ℕ}
+use Rattle.std.proofs.Common.{List}
+use Rattle.buffer.proofs.ByLine.{lines-within}
+use Rattle.chest.proofs.Sheets.{none_lined, one_lined, all_lined}
 use Rattle.chest.proofs.add_lines.Goals as goal
 
-pub loop-at-init : goal.loop-at-init
-loop-at-init c = (search rules, search rules, omega arith, omega arith, none_lined _)
+pub loop-line-init : goal.loop-line-init
+loop-line-init c =
+    let start = rw (← c.into_iter-line-iterator.ensures.into_iter_gives) at c.new-line-items.ensures in
+    (search rules, search rules, ap (λ (ls : List (List ℕ)). 0 + length ls) start ∙ omega arith, none_lined _ start)
 
-pub added-made-requires : goal.added-made-requires
-added-made-requires c = tt
+pub overflow_add-count : goal.overflow_add-count
+overflow_add-count c = omega (arith, c.loop-line.invariant.2, lines-within c.args.input.now, ap (λ (ls : List (List ℕ)). length ls) c.in-Some.ensures.steps)
 
-pub returns-in-Refused : goal.returns-in-Refused
-returns-in-Refused c =
-    λ v s. omega (arith, count_next c.line_end-end.ensures (omega arith), c.loop-at.invariant.3)
+pub loop-line-preserved : goal.loop-line-preserved
+loop-line-preserved c =
+    let L = c.loop-line in
+    (search rules, search rules, omega (arith, L.invariant.2, ap (λ (ls : List (List ℕ)). length ls) c.in-Some.ensures.steps), λ v s. one_lined (L.invariant.3 v s) c.in-Some.ensures.steps c.added.ensures c.in-Ok.is)
 
-pub loop-at-preserved : goal.loop-at-preserved
-loop-at-preserved c =
-    let L = c.loop-at in (
-      search rules,
-      search rules,
-      omega (arith, c.line_end-end.ensures.ahead, L.invariant.2),
-      omega (arith, count_next c.line_end-end.ensures (omega arith), L.invariant.3),
-      λ v s. one_lined (L.invariant.4 v s) c.line_end-end.ensures (omega arith) c.added-made.ensures c.in-Node.is,
-    )
+pub returns-in-Err : goal.returns-in-Err
+returns-in-Err c = λ v s. omega (arith, c.loop-line.invariant.2, ap (λ (ls : List (List ℕ)). length ls) c.in-Some.ensures.steps)
 
 pub returns : goal.returns
-returns c = let L = c.loop-at in λ v s. all_lined (L.invariant.4 v s) (omega arith) L.invariant.3
+returns c = let L = c.loop-line in λ v s. all_lined (L.invariant.3 v s) c.in-None.ensures.steps.0 L.invariant.2

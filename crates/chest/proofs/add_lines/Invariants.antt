@@ -1,24 +1,19 @@
--- `chest::add_lines` meets its contract: the lines so far and those to come are all. Assumes nothing.
-use Prim.Native.Nat.{◌+◌, ◌-◌, ◌≤◌}
-use mathlib.Core.Path.{◌≡◌}
-use lib.ListN.{length, drop}
+-- `chest::add_lines` meets its contract: the lines so far, with those that are left, are all. Assumes nothing.
+use Rattle.std.proofs.Common.{◌≡◌, ◌+◌, length}
 use Rattle.build.specs.Promise.{ValidSoFar}
 use Rattle.buffer.specs.Parts.{lines}
+use Rattle.buffer.specs.Lines.{lines_left}
 use Rattle.words.specs.Build.{Shares}
 use Rattle.chest.proofs.Sheets.{Lining}
 use Rattle.chest.proofs.add_lines.Given as goal
 
-abbrev pub invariant-loop-at : goal.invariant-loop-at
-invariant-loop-at l =
+abbrev pub invariant-loop-line : goal.invariant-loop-line
+invariant-loop-line l =
+    let left = lines_left l.line-iterator in
     (length l.table ≡ length l.initial.table)
     ×
     (length l.text ≡ length l.initial.text)
     ×
-    (l.line ≤ l.at)
+    (l.count + length left ≡ length (lines l.input))
     ×
-    (l.line + length (lines (drop l.at l.input)) ≡ length (lines l.input))
-    ×
-    (ValidSoFar l.initial.c l.initial.table l.initial.text → Shares l.initial.c l.initial.table l.initial.text l.shared → Lining l.shared l.input l.at l.c l.table l.text l.n)
-
-abbrev pub decreases-loop-at : goal.decreases-loop-at
-decreases-loop-at l = length l.input - l.at
+    (ValidSoFar l.initial.c l.initial.table l.initial.text → Shares l.initial.c l.initial.table l.initial.text l.shared → Lining l.shared l.input left l.c l.table l.text l.n)

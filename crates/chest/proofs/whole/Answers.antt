@@ -1,26 +1,23 @@
 -- `chest::whole` meets its contract. Assumes nothing.
 use Rattle.words.proofs.Chain.{new}
 use Rattle.chest.specs.Documents.{sheet_doc}
-use Rattle.chest.proofs.Sheets.{joined}
+use Rattle.chest.proofs.Sheets.{joined, named}
+use Rattle.build.proofs.Handed.{handed}
 use Rattle.chest.proofs.whole.Goals as goal
 
-pub add_lines-lines-requires : goal.add_lines-lines-requires
-add_lines-lines-requires c = tt
-
-pub footed-made-requires : goal.footed-made-requires
-footed-made-requires c = tt
-
-pub returns-in-Full : goal.returns-in-Full
-returns-in-Full c =
-    λ v s. joined _ _ _ _ c.in-Full.is (c.add_lines-lines.ensures v s)
-
-pub returns-in-Refused : goal.returns-in-Refused
-returns-in-Refused c =
-    λ v s. (joined _ _ _ _ c.in-Added.is (c.add_lines-lines.ensures v s)).count
-
-pub returns-in-Node : goal.returns-in-Node
-unfolding sheet_doc
-returns-in-Node c =
+pub returns-in_err-c : goal.returns-in_err-c
+returns-in_err-c c =
     λ v s.
-    let j = (joined _ _ _ _ c.in-Added.is (c.add_lines-lines.ensures v s)) in
-    let b = c.footed-made.ensures _ j.shares j.is _ _ c.in-Node.is j.valid in (b.valid, new b)
+    let is = handed c.from_residual.result c.from_residual.ensures.1 in
+    rw is (named _ _ (joined _ _ _ _ c.in_err-c.was (c.add_lines.ensures v s)))
+
+pub returns-in-Err : goal.returns-in-Err
+returns-in-Err c =
+    λ v s. (joined _ _ _ _ c.in_ok-c.was (c.add_lines.ensures v s)).count
+
+pub returns-in-Ok : goal.returns-in-Ok
+unfolding sheet_doc
+returns-in-Ok c =
+    λ v s.
+    let j = (joined _ _ _ _ c.in_ok-c.was (c.add_lines.ensures v s)) in
+    let b = c.footed.ensures _ j.shares j.is _ _ c.in-Ok.is j.valid in (b.valid, new b)
