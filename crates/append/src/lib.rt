@@ -8,7 +8,7 @@ ghost use Rattle.std.specs.Prelude.{length, drop, ◌≡◌, []};
 ghost use Rattle.append.specs.Append.{Adds};
 ghost use Rattle.append.specs.Decimal.{digits_on, decimal, pointed};
 
-use buffer::copy_bytes;
+use buffer::copy;
 use buffer::parts::behind;
 
 // Writes bytes at a place; gives the place behind them.
@@ -22,7 +22,7 @@ pub fn append(out: &mut [u8], at: usize, bytes: &[u8]) -> usize
     if room - at < bytes.len() {
         return room + 1;
     }
-    copy_bytes(bytes, 0, bytes.len(), out, at);
+    copy(bytes, 0, bytes.len(), out, at);
     at + bytes.len()
 }
 

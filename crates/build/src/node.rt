@@ -222,7 +222,7 @@ impl Counts {
             );
         }
         let at = self.bytes;
-        buffer::copy_bytes(bytes, 0, size, text, at as usize);
+        buffer::copy(bytes, 0, size, text, at as usize);
         let long = size as u32;
         let longer = Counts {
             nodes: self.nodes,

@@ -21,8 +21,8 @@ returns-then-size-eq0 c =
     text-empty args.self args.table.now args.text.now args.bytes.now args.columns.0 c.columns_right-right.ensures
     c.ask-asked.ensures c.in_default.is c.if-size-eq0.true c.add.ensures.0 c.add.ensures.1
 
-pub copy_bytes-requires : goal.copy_bytes-requires
-copy_bytes-requires c =
+pub copy-requires : goal.copy-requires
+copy-requires c =
     let room =
     text_byte-room c.args.self c.args.table.now c.args.text.now c.args.bytes.now c.args.columns.0
     c.columns_right-right.ensures c.ask-asked.ensures c.in_default.is c.if-size-eq0.false in
@@ -53,4 +53,4 @@ returns c =
     let args = c.args in
     text-full args.self args.table.now args.text.now args.bytes.now args.columns.0 c.columns_right-right.ensures
     c.ask-asked.ensures c.in_default.is c.if-size-eq0.false c.add-2.ensures.0 c.add-2.ensures.1
-    c.copy_bytes.ensures
+    c.copy.ensures
