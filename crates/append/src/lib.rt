@@ -8,7 +8,7 @@ ghost use Rattle.std.specs.Prelude.{length, drop, ◌≡◌, []};
 ghost use Rattle.append.specs.Append.{Adds};
 ghost use Rattle.append.specs.Decimal.{digits_on, decimal, pointed};
 
-use buffer::copy_bytes;
+use buffer::copy;
 use buffer::parts::behind;
 
 // Writes bytes at a place; gives the place behind them.
@@ -22,25 +22,23 @@ pub fn append(out: &mut [u8], at: usize, bytes: &[u8]) -> usize
     if room - at < bytes.len() {
         return room + 1;
     }
-    copy_bytes(bytes, 0, bytes.len(), out, at);
+    copy(bytes, 0, bytes.len(), out, at);
     at + bytes.len()
 }
 
-// Puts a number's digits at the end; gives where the first of them stands.
-fn put_digits(out: &mut [u8], n: usize) -> usize
+// Puts a number's digits at the end; gives where the first of them stands. What has no room is left out.
+pub fn put_digits(out: &mut [u8], n: usize) -> usize
     ensures { drop result out.new ≡ digits_on (length out.old) n [] }
 {
     let mut n = n;
-    let mut at = out.len();
-    while 0 < at {
-        at -= 1;
+    for at in (0..out.len()).rev() {
         out[at] = b'0' + (n % 10) as u8;
         n /= 10;
         if n == 0 {
             return at;
         }
     }
-    at
+    0
 }
 
 // Writes a number.

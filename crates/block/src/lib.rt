@@ -4,8 +4,7 @@
 
 #![tactic(auto)]
 
-ghost use Rattle.std.specs.Prelude.{◌≡◌, true, ◌+◌, ◌-◌, ◌<◌, ◌≤◌, length, take, drop};
-ghost use Rattle.buffer.specs.Run.{put};
+ghost use Rattle.std.specs.Prelude.{◌≡◌, true, ◌+◌, ◌-◌, ◌<◌, ◌≤◌, length};
 ghost use Rattle.build.specs.Outcome.{outcome, made};
 ghost use Rattle.build.specs.Constructors.{nest_right};
 ghost use Rattle.block.specs.Block.{alternative, unions, layouts, block_of, sizes_right, operands, least, format_made};
@@ -110,18 +109,6 @@ fn layouts(
     )
 }
 
-// The n words of src from `from` on stand in dst from `at` on.
-fn copy_words(src: &[u32], from: usize, n: usize, dst: &mut [u32], at: usize)
-    requires { (from + n ≤ length src.now) × (at + n ≤ length dst.old) }
-    ensures { dst.new ≡ put dst.old at (take n (drop from src.now)) }
-{
-    let mut i = 0;
-    while i < n {
-        dst[at + i] = src[from + i];
-        i += 1;
-    }
-}
-
 // All layouts, built on a table of their own and laid over the lent one if they fit, so that a refusal leaves it as it was.
 fn placed(
     c: Counts,
@@ -141,13 +128,13 @@ fn placed(
 {
     let mut own = [0u32; 4096];
     let used = c.nodes as usize * 4;
-    copy_words(table, 0, used, &mut own, 0);
+    buffer::copy(table, 0, used, &mut own, 0);
     let (d, n) = layouts(c, &mut own, text, block, prefixes, suffixes, nests)?;
     let nodes = d.nodes as usize;
     if table.len() / 4 < nodes {
         return Err(Why::Nodes);
     }
-    copy_words(&own, used, nodes * 4 - used, table, used);
+    buffer::copy(&own, used, nodes * 4 - used, table, used);
     Ok((d, n))
 }
 

@@ -1,26 +1,25 @@
 -- The laws of octets that the readers of text bytes lean on.
 --     owed_start, ascii_well           an octet that starts a character; bytes below 128 are well-formed
---     every-none, every_more, every-same, every_part, every-short    a test of every octet: of none; one more; one over and over; a part; the front of a part
+--     fold-and, every-same, every_part, every-short    a test of every octet: asked of each in turn; one over and over; a part; the front of a part
 --     ascii_part, ascii-short, unfed_part    the same of octets below 128, and without a line feed
---     start-same                       first octets between two bounds owe the same
---     owed_first, owed_outside, owed-next, owed-end, owed_read, owed-low   one octet of what is owed; the end; an octet read; one below 128 read
+--     owed_first, owed_outside, owed-next, owed-end, owed-low   one octet of what is owed; the end; one below 128 read
 -- Assumes nothing.
 use Prim.Native.Nat.{ℕ, zero, suc, ◌+◌, ◌-◌, ◌≤◌, ◌<◌}
 use native.Mathlib.Omega.{arith}
 use native.Mathlib.Numerals.{add-one}
-use mathlib.Core.Path.{◌≡◌, refl, sym, ap, ap₂, ◌∙◌}
-use mathlib.Core.Bool.{Bool, true, false, not, ◌&&◌, ◌||◌}
-use mathlib.Core.List.{List, [], ◌∷◌, ◌++◌}
+use mathlib.Core.Path.{◌≡◌, refl, sym, ap, ◌∙◌}
+use mathlib.Core.Bool.{Bool, true, false, not, ◌&&◌}
+use mathlib.Core.List.{List, [], ◌∷◌}
 use lib.ListN.{length, get_or, take, drop, replicate}
-use lib.Seq.{take-suc, take-take, drop-cons}
-use lib.Dec.{eqb, ltb, leb, eqb-suc-zero}
-use borrow.Author.Tests.{ltb-true, leb-true, le-leb, lt-leb}
+use lib.Seq.{take-take, drop-cons}
+use lib.Dec.{eqb, ltb, eqb-suc-zero}
+use borrow.Author.Tests.{ltb-true, le-leb}
 use Rattle.buffer.specs.Utf8.{Range, to, within, tail, Start, start, follow, never, owed, well_formed, every, ascii, no_feed}
-use Rattle.buffer.specs.Reader.{owing, ranges, starts, goes_on, GoesOn}
+use Rattle.buffer.specs.Reader.{owing, ranges, starts, goes_on}
 use Rattle.buffer.specs.declared.utf8.Owing.{Owing}
-use Rattle.buffer.specs.declared.utf8.Next.{Next}
-use Rattle.buffer.specs.declared.utf8.Next.TheVariants.{Owes, Wrong}
-use Rattle.choice.proofs.Tests.{and-end, and-true, true-and, or-true, all, all_at}
+use Rattle.std.proofs.Common.{Option, Some, None}
+use Rattle.std.specs.List.{fold}
+use Rattle.choice.proofs.Tests.{and-end, and-true, true-and}
 
 -- ---- characters
 
@@ -45,24 +44,15 @@ and_assoc : (p q r : Bool) → (p && q) && r ≡ p && (q && r)
 and_assoc true q r = refl
 and_assoc false q r = refl
 
+-- a test of all that is asked of each in turn, to the end
+pub fold-and : (F : List ℕ → Bool) (p : ℕ → Bool) → F [] ≡ true → ((x : ℕ) (xs : List ℕ) → F (x ∷ xs) ≡ p x && F xs) → (s : List ℕ) → fold (λ all x. all && p x) true s ≡ F s
+fold-and F p none step s = go true s
+  where
+    go : (q : Bool) (xs : List ℕ) → fold (λ all x. all && p x) q xs ≡ q && F xs
+    go q [] = rw none (sym (and-end q))
+    go q (x ∷ xs) = go (q && p x) xs ∙ and_assoc q (p x) (F xs) ∙ ap (λ (r : Bool). q && r) (sym (step x xs))
+
 module _ (f : ℕ → Bool) where
-  every_append : (xs ys : List ℕ) → every f (xs ++ ys) ≡ every f xs && every f ys
-  unfolding every
-  every_append [] ys = refl
-  every_append (x ∷ xs) ys = ap (λ (p : Bool). f x && p) (every_append xs ys) ∙ sym (and_assoc (f x) (every f xs) (every f ys))
-
-  pub every-none : every f [] ≡ true
-  unfolding every
-  every-none = refl
-
-  pub every_more : (s : List ℕ) (i : ℕ) → i < length s → every f (take i s) && f (get_or s i 0) ≡ every f (take (i + 1) s)
-  unfolding every
-  every_more s i h =
-      let one : every f (get_or s i 0 ∷ []) ≡ f (get_or s i 0) = and-end (f (get_or s i 0)) in
-      ap (λ (p : Bool). every f (take i s) && p) (sym one)
-      ∙ sym (every_append (take i s) (get_or s i 0 ∷ []))
-      ∙ ap (every f) (sym (take-suc s i 0 h) ∙ ap (λ (k : ℕ). take k s) (sym (add-one i)))
-
   -- one octet, over and over
   pub every-same : (b n : ℕ) → f b ≡ true → every f (replicate n b) ≡ true
   unfolding every
@@ -102,47 +92,6 @@ pub unfed_part : (s : List ℕ) (o l : ℕ) → no_feed s ≡ true → no_feed (
 unfolding no_feed
 unfed_part s o l e = every_part (λ b. not (eqb b 10)) s o l e
 
--- ---- first octets
-
--- no end of r lies between two bounds: what is between them is in r together
-abbrev pub apart : ℕ → ℕ → Range → Bool
-apart from upto r = (leb r.low from || ltb upto r.low) && (ltb r.high from || leb upto r.high)
-
-within_same : (b from upto : ℕ) → from ≤ b → b ≤ upto → (r : Range) → apart from upto r ≡ true → within r b ≡ within r from
-within_same b from upto p q r t = ap₂ ◌&&◌ (low (leb r.low from) refl) (high (ltb r.high from) refl)
-  where
-    parts : ((leb r.low from || ltb upto r.low) ≡ true) × ((ltb r.high from || leb upto r.high) ≡ true)
-    parts = and-true _ _ t
-
-    low : (x : Bool) → leb r.low from ≡ x → leb r.low b ≡ leb r.low from
-    low true e = le-leb r.low b (omega (arith, leb-true r.low from e)) ∙ sym e
-    low false e = lt-leb r.low b (omega (arith, ltb-true upto r.low (or-true _ _ parts.0 e))) ∙ sym e
-
-    high : (x : Bool) → ltb r.high from ≡ x → leb b r.high ≡ leb from r.high
-    high true e = let l = ltb-true r.high from e in lt-leb b r.high (omega arith) ∙ sym (lt-leb from r.high (omega arith))
-    high false e = let l = leb-true upto r.high (or-true _ _ parts.1 e) in le-leb b r.high (omega arith) ∙ sym (le-leb from r.high (omega arith))
-
--- the ranges of first octets
-abbrev pub firsts : List Range
-firsts =
-    to 0x00 0x7F
-    ∷ to 0xC2 0xDF
-    ∷ to 0xE0 0xE0
-    ∷ to 0xE1 0xEC
-    ∷ to 0xED 0xED
-    ∷ to 0xEE 0xEF
-    ∷ to 0xF0 0xF0
-    ∷ to 0xF1 0xF3
-    ∷ to 0xF4 0xF4
-    ∷ []
-
--- no end of a range lies between two bounds: the first octets between them owe the same
-pub start-same : (b from upto : ℕ) → all (λ i. apart from upto) 0 firsts ≡ true → from ≤ b → b ≤ upto → start from ≡ start b
-start-same b from upto t p q =
-    let same : (k : ℕ) → k < 9 → within (get_or firsts k tail) b ≡ within (get_or firsts k tail) from =
-    λ k h. within_same b from upto p q (get_or firsts k tail) (all_at (λ i. apart from upto) firsts tail t k h) in
-    rw (same 0 (omega arith), same 1 (omega arith), same 2 (omega arith), same 3 (omega arith), same 4 (omega arith), same 5 (omega arith), same 6 (omega arith), same 7 (omega arith), same 8 (omega arith))
-
 -- ---- what is owed
 
 owed-never : (b : ℕ) (bs : List ℕ) → start b ≡ never → owed [] (b ∷ bs) ≡ false
@@ -150,9 +99,9 @@ unfolding owed
 owed-never b bs e = ap (λ (s : Start). elim s as (λ x. Bool) [ follow rs ↦ owed rs bs | never ↦ false ]) e
 
 -- nothing is owed: the octet starts a character
-pub owed_first : (n low high b : ℕ) (r : Next) → n ≡ 0 → starts r ≡ start b → (bs : List ℕ) → owed (owing n low high) (b ∷ bs) ≡ goes_on r bs
-owed_first n low high b (Owes o) z e bs = rw z (owed_start b bs (ranges o) (sym e))
-owed_first n low high b Wrong z e bs = rw z (owed-never b bs (sym e))
+pub owed_first : (n low high b : ℕ) (r : Option Owing) → n ≡ 0 → starts r ≡ start b → (bs : List ℕ) → owed (owing n low high) (b ∷ bs) ≡ goes_on r bs
+owed_first n low high b (Some o) z e bs = rw z (owed_start b bs (ranges o) (sym e))
+owed_first n low high b None z e bs = rw z (owed-never b bs (sym e))
 
 -- the octet is not in the range that is owed
 pub owed_outside : (n low high b : ℕ) → (n ≡ 0 → ⊥) → within (to low high) b ≡ false → (bs : List ℕ) → owed (owing n low high) (b ∷ bs) ≡ false
@@ -176,11 +125,6 @@ pub owed-end : (n low high : ℕ) → owed (owing n low high) [] ≡ eqb n 0
 unfolding owed
 owed-end zero low high = refl
 owed-end (suc n) low high = sym (eqb-suc-zero n)
-
--- one octet read off the bytes
-pub owed_read : (bytes : List ℕ) (i : ℕ) (o : Owing) (r : Next) → i < length bytes → GoesOn o (get_or bytes i 0) r → goes_on r (drop (i + 1) bytes) ≡ owed (ranges o) (drop i bytes)
-owed_read bytes i o r h g =
-    ap (λ (k : ℕ). goes_on r (drop k bytes)) (add-one i) ∙ sym (g (drop (suc i) bytes)) ∙ ap (owed (ranges o)) (sym (drop-cons bytes i 0 h))
 
 -- nothing is owed and the octet is below 128: it is a character
 pub owed-low : (bytes : List ℕ) (i n low high : ℕ) → i < length bytes → n ≡ 0 → get_or bytes i 0 < 128 → owed (owing n low high) (drop (i + 1) bytes) ≡ owed (owing n low high) (drop i bytes)

@@ -1,33 +1,52 @@
 -- The laws of `put`, over any element. n is the length of what is put, as its user has it.
 --     take-replicate                   the front of a run of one element
+--     part-is, put-part                a part as a slice: read, and written
+--     fill_next, fill-done             a loop that fills all of a list: a store more, and its end
 --     put-none, put-more               nothing put; one more element stored behind what is put
 --     length-put                       the length is kept
---     take_put, drop-put, front-put    the front up to the end of what is put, the rest behind it, the front before it
---     fill_none, fill_more, fill_up, fill_end   a loop that fills: before it, a store more, and up to the buffer's end
---     copy_more                        a part of another list: a store more
+--     take_put, drop-put               the front up to the end of what is put, the rest behind it
+--     fill_none, fill_end              a run that fills: before it, and one up to the buffer's end
 --     put_one, put-put, put-cons       a single store; a run put behind a run, and behind a single store
 --     part-put, copied-over            the front up to a part of what is put; the same of a part of another list
 --     put_same, fill-run, fill_part, fill-kept    what stands already; a run more filled, or found full
---     zero_more, zero-all              all 0: one element more; then it is filled with 0
---     block_filled, block_clean, word-cleared, all-cleared    a loop that clears by blocks: a block filled or found clean, a word, the end
+--     zero-all                         all 0: then it is filled with 0
+--     block_filled, block_clean, rest-cleared    a loop that clears by blocks: a block filled or found clean, the rest
 -- Assumes nothing.
 use mathlib.Core.Path.{◌≡◌, refl, sym, ap, ap₂, ◌∙◌, subst}
-use mathlib.Core.Bool.{Bool, true, false, ◌&&◌, and_assoc, true≢false}
+use mathlib.Core.Bool.{Bool, true, false, ◌&&◌, true≢false}
 use mathlib.Core.List.{List, [], ◌∷◌, ◌++◌, append_assoc, append-nil}
 use Prim.Native.Nat.{ℕ, zero, suc, ◌+◌, ◌-◌, ◌≤◌, ◌<◌}
 use native.Mathlib.Numerals.{add-one}
 use native.Mathlib.Nat.{not-suc-le-zero, le_of_suc-le-suc}
 use native.Mathlib.Omega.{arith}
-use lib.ListN.{length, take, drop, set, replicate, get_or, length-take, length-append, length-replicate, length-drop, length-set, take-append-drop, replicate-append-replicate, drop_of_length-le}
+use lib.ListN.{length, take, drop, set, replicate, get_or, length-take, length-append, length-replicate, length-drop, take-append-drop, replicate-append-replicate, drop_of_length-le}
 use lib.Seq.{drop-cons, take-suc, take_at, drop_at, set_at, append_snoc, get_or-drop, drop-drop, length-take-le, take-take, take-append-add}
 use lib.Dec.{eqb}
 use borrow.Author.Tests.{eqb-true}
+use borrow.Rule.Slice.PartMut.{put_mid}
 use Rattle.buffer.specs.Run.{put, all_zero}
 
 pub take-replicate : {A : Type 0} (n m : ℕ) (v : A) → n ≤ m → take n (replicate m v) ≡ replicate n v
 take-replicate zero m v h = refl
 take-replicate (suc n) zero v h = absurd (not-suc-le-zero h)
 take-replicate {A} (suc n) (suc m) v h = ap (λ (l : List A). v ∷ l) (take-replicate n m v (le_of_suc-le-suc h))
+
+-- a part by where it starts and ends
+pub part-is : {A : Type 0} (s : List A) (from n : ℕ) → take (from + n - from) (drop from s) ≡ take n (drop from s)
+part-is s from n = let k : from + n - from ≡ n = omega arith in rw k refl
+
+-- a loop that stores v in each place
+pub fill_next : {A : Type 0} (d : List A) (i : ℕ) (v : A) (buffer : List A) → i < length d → buffer ≡ replicate i v ++ drop i d → set buffer i v ≡ replicate (i + 1) v ++ drop (i + 1) d
+fill_next {A} d i v buffer h e =
+    ap (λ (l : List A). set l i v) (e ∙ ap (λ (r : List A). replicate i v ++ r) (drop-cons d i v h))
+    ∙ set_at (replicate i v) (get_or d i v) (drop (suc i) d) v i (length-replicate i v)
+    ∙ sym (append_snoc (replicate i v) v (drop (suc i) d))
+    ∙ ap₂ (λ (x : List A) (k : ℕ). x ++ drop k d) (replicate-append-replicate i 1 v) (sym (add-one i))
+
+pub fill-done : {A : Type 0} (d : List A) (i : ℕ) (v : A) (buffer : List A) → i ≡ length d → buffer ≡ replicate i v ++ drop i d → buffer ≡ replicate (length d) v
+fill-done {A} d i v buffer e f =
+    let past : length d ≤ i = omega arith in
+    f ∙ ap (λ (r : List A). replicate i v ++ r) (drop_of_length-le d past) ∙ append-nil (replicate i v) ∙ ap (λ (n : ℕ). replicate n v) e
 
 module _ {A : Type 0} (d : List A) (at : ℕ) where
   pub put-none : put d at [] ≡ d
@@ -62,9 +81,15 @@ module _ {A : Type 0} (d : List A) (at : ℕ) where
   unfolding put
   drop-put s n e h = rw e (drop_at (take at d ++ s) _ (at + n) (head-length s (omega arith) ∙ ap (λ (k : ℕ). at + k) e))
 
-  pub front-put : (s : List A) → at ≤ length d → take at (put d at s) ≡ take at d
+  -- ---- a part that is written as a slice
+
+  pub put-part : (n : ℕ) (s : List A) → at + n ≤ length d → length s ≡ n → put_mid at (at + n - at) d s ≡ put d at s
   unfolding put
-  front-put s h = rw append_assoc (take_at (take at d) _ at (length-take-le at d h))
+  put-part n s h e =
+      let k : at + n - at ≡ length s = omega arith in
+      ap (λ (m : ℕ). take at d ++ (s ++ drop m (drop at d))) k
+      ∙ ap (λ (r : List A). take at d ++ (s ++ r)) (drop-drop (length s) at d)
+      ∙ sym (append_assoc (take at d) s (drop (at + length s) d))
 
   -- ---- what the loops store
 
@@ -74,17 +99,6 @@ module _ {A : Type 0} (d : List A) (at : ℕ) where
 
   pub fill_none : (v : A) → Filling v 0 d
   fill_none v = (sym put-none, refl)
-
-  pub fill_more : (v : A) (i : ℕ) (buffer : List A) → at + i < length d → Filling v i buffer → Filling v (i + 1) (set buffer (at + i) v)
-  fill_more v i buffer h f =
-      (ap (λ (l : List A). set l (at + i) v) f.0 ∙ put-more (replicate i v) i v (length-replicate i v) h ∙ ap (put d at) (replicate-append-replicate i 1 v), simp length-set f.1)
-
-  -- the same, counted from the buffer's start
-  pub fill_up : (v : A) (i : ℕ) (buffer : List A) → at ≤ i → i < length d → Filling v (i - at) buffer → Filling v (i + 1 - at) (set buffer i v)
-  fill_up v i buffer le h f =
-      let here : at + (i - at) ≡ i = omega arith in
-      let next : i - at + 1 ≡ i + 1 - at = omega arith in
-      rw (here, next) at (fill_more v (i - at) buffer (omega arith) f)
 
   pub fill_end : (v : A) → put d at (replicate (length d - at) v) ≡ take at d ++ replicate (length d - at) v
   unfolding put
@@ -162,18 +176,6 @@ module _ {A : Type 0} (d : List A) (at : ℕ) (v : A) (n m : ℕ) (buffer : List
 
 -- ---- all 0
 
-pub zero_more : (s : List ℕ) (i : ℕ) → i < length s → all_zero (take i s) && eqb (get_or s i 0) 0 ≡ all_zero (take (i + 1) s)
-unfolding all_zero
-zero_more s i h = go s i h ∙ ap (λ (k : ℕ). all_zero (take k s)) (sym (add-one i)) where
-  end : (q : Bool) → true && q ≡ q && true
-  end true = refl
-  end false = refl
-
-  go : (s : List ℕ) (i : ℕ) → i < length s → all_zero (take i s) && eqb (get_or s i 0) 0 ≡ all_zero (take (suc i) s)
-  go [] i h = absurd (omega arith)
-  go (x ∷ s) zero h = end (eqb x 0)
-  go (x ∷ s) (suc i) h = and_assoc (eqb x 0) (all_zero (take i s)) (eqb (get_or s i 0) 0) ∙ ap (λ (q : Bool). eqb x 0 && q) (go s i (omega arith))
-
 pub zero-all : (s : List ℕ) → all_zero s ≡ true → s ≡ replicate (length s) 0
 unfolding all_zero
 zero-all [] e = refl
@@ -198,11 +200,9 @@ module _ (d : List ℕ) (w : ℕ) (buffer : List ℕ) (f : Filling d 0 0 w buffe
         let clean = zero-all (take m (drop w buffer)) k ∙ ap (λ (n : ℕ). replicate n 0) there in
         rw e (fill-kept d 0 0 w m buffer (omega arith) f (ap (λ (n : ℕ). take m (drop n buffer)) (sym z) ∙ clean))
 
-  pub word-cleared : w < length d → Filling d 0 0 (w + 1) (set buffer w 0)
-  word-cleared h = let z : 0 + w ≡ w = omega arith in rw z at (fill_more d 0 0 w buffer (omega arith) f)
-
-  pub all-cleared : length d ≤ w → w ≤ length d → buffer ≡ replicate (length d) 0
-  all-cleared h k =
-      let e : w ≡ length d - 0 = omega arith in
-      let n : length d - 0 ≡ length d = omega arith in
-      f.0 ∙ ap (λ (m : ℕ). put d 0 (replicate m 0)) e ∙ fill_end d 0 0 ∙ ap (λ (m : ℕ). replicate m 0) n
+  pub rest-cleared : (b : List ℕ) → w ≤ length d → b ≡ take w buffer ++ replicate (length buffer - w) 0 → b ≡ replicate (length d) 0
+  rest-cleared b h e =
+      let z : w ≡ 0 + w = omega arith in
+      let front : take w buffer ≡ replicate w 0 = ap (take w) f.0 ∙ ap (λ (k : ℕ). take k (put d 0 (replicate w 0))) z ∙ take_put d 0 (replicate w 0) w (length-replicate w 0) (omega arith) in
+      let all : w + (length buffer - w) ≡ length d = omega (arith, f.1) in
+      e ∙ ap (λ (l : List ℕ). l ++ replicate (length buffer - w) 0) front ∙ replicate-append-replicate w (length buffer - w) 0 ∙ ap (λ (n : ℕ). replicate n 0) all

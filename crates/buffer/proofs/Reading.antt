@@ -1,10 +1,7 @@
 -- The laws of the parts of a text, over plain lists.
 --     more, done, rest-is           what is left of a list: one more, nothing, all of it
---     ..-counts, no-characters, starts_is   the bytes of characters
---     control-.., no-controls       control characters
---     blank-.., all-blank           blanks only
---     blanks-.., no-blanks, trim-.. blanks at a place and at the end
---     part-.., no_part              the first of a byte
+--     starts_is                     the bytes of characters
+--     ..-is, first-or-all, trimmed_is   what the definitions are in the library's words: a count, the first that passes
 --     line_first                    the first line, and those after it
 --     body-within, index-within, part-within   ends lie within
 -- Assumes nothing.
@@ -13,14 +10,19 @@ use native.Mathlib.Omega.{arith}
 use native.Mathlib.Numerals.{add-one}
 use native.Mathlib.Nat.{add-suc, not-suc-le-zero, le_of_suc-le-suc}
 use mathlib.Core.Path.{◌≡◌, refl, sym, ap, ◌∙◌}
-use mathlib.Core.Bool.{Bool, true, false, not, ◌&&◌, ◌||◌}
-use mathlib.Core.List.{List, [], ◌∷◌, ◌++◌}
+use mathlib.Core.Bool.{Bool, true, false, not, cond, ◌&&◌, ◌||◌}
+use mathlib.Core.List.{List, [], ◌∷◌}
 use lib.ListN.{length, get_or, take, drop, length-drop}
-use lib.Seq.{drop-cons, drop-drop, take_all, take-suc, length-take-le}
+use Rattle.std.specs.List.{count_by, position, position_or_len}
+use Rattle.std.specs.Option.{unwrap_or}
+use Rattle.std.proofs.Common.{Some, None}
+use Rattle.std.proofs.lemmas.List.Recursion.{is_count_by, is_position_or_len}
+use Rattle.std.proofs.lemmas.List.Sums.{prefix_len-le-length}
+use lib.Seq.{drop-cons, drop-drop, take_all}
 use lib.Dec.{eqb, ltb}
-use borrow.Author.Tests.{le-leb, lt-leb, lt-ltb, le-ltb, eq-eqb, ne_eqb, ltb-true, ltb-false}
+use borrow.Author.Tests.{le-leb, lt-leb, ne_eqb, ltb-true, ltb-false}
 use Rattle.choice.specs.Pick.{pick}
-use Rattle.buffer.specs.Parts.{index_of, before, lines, body_end, blanks, trimmed, goes_on, characters, blank, controls}
+use Rattle.buffer.specs.Parts.{index_of, before, lines, body_end, blanks, trimmed, goes_on, characters}
 
 -- ---- what is left of a list
 
@@ -37,117 +39,6 @@ done (x ∷ s) (suc i) h = done s i (le_of_suc-le-suc h)
 pub rest-is : (s : List ℕ) (at : ℕ) → take (length s - at) (drop at s) ≡ drop at s
 rest-is s at = take_all (length s - at) (drop at s) (simp length-drop (omega arith))
 
--- ---- blanks at a place
-
-module _ (s : List ℕ) (i : ℕ) (h : i < length s) where
-  pub blanks-next : get_or s i 0 ≡ 32 → blanks (drop i s) ≡ blanks (drop (i + 1) s) + 1
-  unfolding blanks
-  blanks-next e = rw (more s i h, eq-eqb (get_or s i 0) 32 e, add-one (blanks (drop (i + 1) s)))
-
-  pub blanks-not : (get_or s i 0 ≡ 32 → ⊥) → blanks (drop i s) ≡ 0
-  unfolding blanks
-  blanks-not e = rw (more s i h, ne_eqb (get_or s i 0) 32 e)
-
-pub no-blanks : (s : List ℕ) (i : ℕ) → length s ≤ i → blanks (drop i s) ≡ 0
-unfolding blanks
-no-blanks s i h = rw (done s i h)
-
--- ---- blanks at the end
-
-last-blank : (xs : List ℕ) → trimmed (xs ++ (32 ∷ [])) ≡ trimmed xs
-unfolding trimmed
-last-blank [] = refl
-last-blank (x ∷ xs) = ap (λ (n : ℕ). pick (eqb n 0 && eqb x 32) 0 (suc n)) (last-blank xs)
-
-last-other : (xs : List ℕ) (b : ℕ) → (b ≡ 32 → ⊥) → trimmed (xs ++ (b ∷ [])) ≡ suc (length xs)
-unfolding trimmed
-last-other [] b e = rw (ne_eqb b 32 e)
-last-other (x ∷ xs) b e = ap (λ (n : ℕ). pick (eqb n 0 && eqb x 32) 0 (suc n)) (last-other xs b e) ∙ rw (ne_eqb (suc (length xs)) 0 (λ z. omega arith))
-
-module _ (s : List ℕ) (n : ℕ) (some : 0 < n) (h : n ≤ length s) where
-  split : take n s ≡ take (n - 1) s ++ (get_or s (n - 1) 0 ∷ [])
-  split =
-      let e : n ≡ suc (n - 1) = omega arith in
-      ap (λ (k : ℕ). take k s) e ∙ take-suc s (n - 1) 0 (omega arith)
-
-  pub trim-here : (get_or s (n - 1) 0 ≡ 32 → ⊥) → trimmed (take n s) ≡ n
-  trim-here e =
-      let size : length (take (n - 1) s) ≡ n - 1 = length-take-le (n - 1) s (omega arith) in
-      ap trimmed split ∙ last-other (take (n - 1) s) (get_or s (n - 1) 0) e ∙ omega arith
-
-  pub trim-next : get_or s (n - 1) 0 ≡ 32 → trimmed (take (n - 1) s) ≡ trimmed (take n s)
-  trim-next e = sym (ap trimmed split ∙ ap (λ (b : ℕ). trimmed (take (n - 1) s ++ (b ∷ []))) e ∙ last-blank (take (n - 1) s))
-
-pub trim-none : (s : List ℕ) (n : ℕ) → n ≤ 0 → n ≡ trimmed (take n s)
-unfolding trimmed
-trim-none s zero h = refl
-trim-none s (suc n) h = absurd (omega arith)
-
--- ---- columns
-
-module _ (s : List ℕ) (i : ℕ) (h : i < length s) where
-  pub low-counts : get_or s i 0 < 128 → characters (drop i s) ≡ characters (drop (i + 1) s) + 1
-  unfolding characters
-  low-counts l = rw (more s i h, lt-leb 128 (get_or s i 0) l, add-one (characters (drop (i + 1) s)))
-
-  pub high-counts : 191 < get_or s i 0 → characters (drop i s) ≡ characters (drop (i + 1) s) + 1
-  unfolding characters
-  high-counts u = rw (more s i h, le-leb 128 (get_or s i 0) (omega arith), lt-leb (get_or s i 0) 191 u, add-one (characters (drop (i + 1) s)))
-
-  pub rest-counts : 128 ≤ get_or s i 0 → get_or s i 0 ≤ 191 → characters (drop i s) ≡ characters (drop (i + 1) s)
-  unfolding characters
-  rest-counts l u = rw (more s i h, le-leb 128 (get_or s i 0) l, le-leb (get_or s i 0) 191 u)
-
-  -- ---- control characters
-
-  pub control-low : get_or s i 0 < 32 → controls (drop i s) ≡ true
-  unfolding controls
-  control-low l = rw (more s i h, lt-ltb (get_or s i 0) 32 l)
-
-  pub control_last : 32 ≤ get_or s i 0 → get_or s i 0 ≡ 127 → controls (drop i s) ≡ true
-  unfolding controls
-  control_last l e = rw (more s i h, le-ltb (get_or s i 0) 32 l, eq-eqb (get_or s i 0) 127 e)
-
-  pub control-none : 32 ≤ get_or s i 0 → (get_or s i 0 ≡ 127 → ⊥) → controls (drop i s) ≡ controls (drop (i + 1) s)
-  unfolding controls
-  control-none l e = rw (more s i h, le-ltb (get_or s i 0) 32 l, ne_eqb (get_or s i 0) 127 e)
-
-  -- ---- blanks
-
-  pub blank-next : get_or s i 0 ≡ 32 → blank (drop i s) ≡ blank (drop (i + 1) s)
-  unfolding blank
-  blank-next e = rw (more s i h, eq-eqb (get_or s i 0) 32 e)
-
-  pub blank-not : (get_or s i 0 ≡ 32 → ⊥) → blank (drop i s) ≡ false
-  unfolding blank
-  blank-not e = rw (more s i h, ne_eqb (get_or s i 0) 32 e)
-
-  -- ---- parts
-
-  pub part-here : (b : ℕ) → get_or s i 0 ≡ b → index_of b (drop i s) ≡ 0
-  unfolding index_of
-  part-here b e = rw (more s i h, eq-eqb (get_or s i 0) b e)
-
-  pub part-next : (b : ℕ) → (get_or s i 0 ≡ b → ⊥) → index_of b (drop i s) ≡ index_of b (drop (i + 1) s) + 1
-  unfolding index_of
-  part-next b e = rw (more s i h, ne_eqb (get_or s i 0) b e, add-one (index_of b (drop (i + 1) s)))
-
-pub no-characters : (s : List ℕ) (i : ℕ) → length s ≤ i → characters (drop i s) ≡ 0
-unfolding characters
-no-characters s i h = rw (done s i h)
-
-pub no-controls : (s : List ℕ) (i : ℕ) → length s ≤ i → controls (drop i s) ≡ false
-unfolding controls
-no-controls s i h = rw (done s i h)
-
-pub all-blank : (s : List ℕ) (i : ℕ) → length s ≤ i → blank (drop i s) ≡ true
-unfolding blank
-all-blank s i h = rw (done s i h)
-
-pub no_part : (s : List ℕ) (i b : ℕ) → length s ≤ i → index_of b (drop i s) ≡ 0
-unfolding index_of
-no_part s i b h = rw (done s i h)
-
 -- a byte goes on with a character where it starts none
 pub starts_is : (b : ℕ) → goes_on b ≡ not (ltb b 128 || ltb 191 b)
 starts_is b = go (ltb b 128) (ltb 191 b) refl refl
@@ -156,6 +47,54 @@ starts_is b = go (ltb b 128) (ltb 191 b) refl refl
     go true u e f = rw (lt-leb 128 b (ltb-true b 128 e))
     go false true e f = rw (le-leb 128 b (ltb-false b 128 e), lt-leb b 191 (ltb-true 191 b f))
     go false false e f = rw (le-leb 128 b (ltb-false b 128 e), le-leb b 191 (ltb-false 191 b f))
+
+-- ---- what each definition is in the library's words
+
+pub characters-is : (s : List ℕ) → characters s ≡ count_by (λ b. ltb b 128 || ltb 191 b) s
+unfolding characters
+characters-is s = is_count_by characters (λ b. ltb b 128 || ltb 191 b) refl (λ b bs. rw starts_is (go (ltb b 128 || ltb 191 b) (characters bs))) s
+  where
+    go : (t : Bool) (n : ℕ) → pick (not t) n (suc n) ≡ cond t (1 + n) n
+    go true n = omega arith
+    go false n = refl
+
+pub index-is : (b : ℕ) (s : List ℕ) → index_of b s ≡ position_or_len (λ x. eqb x b) s
+unfolding index_of
+index-is b s = is_position_or_len (index_of b) (λ x. eqb x b) refl (λ x xs. go (eqb x b) (index_of b xs)) s where
+  go : (t : Bool) (n : ℕ) → pick t 0 (suc n) ≡ cond t 0 (1 + n)
+  go true n = refl
+  go false n = omega arith
+
+pub blanks-is : (s : List ℕ) → blanks s ≡ position_or_len (λ x. not (eqb x 32)) s
+unfolding blanks
+blanks-is s = is_position_or_len blanks (λ x. not (eqb x 32)) refl (λ x xs. go (eqb x 32) (blanks xs)) s where
+  go : (t : Bool) (n : ℕ) → pick t (suc n) 0 ≡ cond (not t) 0 (1 + n)
+  go true n = omega arith
+  go false n = refl
+
+-- what `position` finds, or that it finds nothing
+pub first-or-all : (p : ℕ → Bool) (s : List ℕ) → unwrap_or (position p s) (length s) ≡ position_or_len p s
+first-or-all p s = go (ltb n (length s)) refl where
+  n : ℕ
+  n = position_or_len p s
+
+  go : (t : Bool) → ltb n (length s) ≡ t → unwrap_or (cond t (Some n) None) (length s) ≡ n
+  go true e = refl
+  go false e = omega (arith, ltb-false n (length s) e, prefix_len-le-length (λ x. not (p x)) s)
+
+-- blanks from n on, and none before them
+pub trimmed_is : (s : List ℕ) (n : ℕ) → n ≤ length s → ((k : ℕ) → n ≤ k → k < length s → eqb (get_or s k 0) 32 ≡ true) → ((k : ℕ) → k + 1 ≡ n → eqb (get_or s k 0) 32 ≡ false) → n ≡ trimmed s
+unfolding trimmed
+trimmed_is [] n h behind other = omega arith
+trimmed_is (b ∷ s) zero h behind other =
+    let rest = trimmed_is s 0 (omega arith) (λ k l m. behind (suc k) (omega arith) (omega arith)) (λ k e. absurd (omega arith)) in
+    rw (← rest, behind 0 (omega arith) (omega arith)) refl
+trimmed_is (b ∷ s) (suc zero) h behind other =
+    let rest = trimmed_is s 0 (omega arith) (λ k l m. behind (suc k) (omega arith) (omega arith)) (λ k e. absurd (omega arith)) in
+    rw (← rest, other 0 (omega arith)) refl
+trimmed_is (b ∷ s) (suc (suc n)) h behind other =
+    let rest = trimmed_is s (suc n) (omega arith) (λ k l m. behind (suc k) (omega arith) (omega arith)) (λ k e. other (suc k) (omega arith)) in
+    rw (← rest, ne_eqb (suc n) 0 (λ e. omega arith)) refl
 
 -- ---- lines
 

@@ -7,72 +7,40 @@ pub mod lines;
 pub mod parts;
 pub mod utf8;
 
-ghost use Rattle.std.specs.Prelude.{◌≡◌, ◌∷◌, ◌++◌, ◌+◌, ◌≤◌, ◌<◌, length, take, drop, replicate};
-ghost use Rattle.buffer.specs.Run.{put, zeroed, all_zero};
+ghost use Rattle.std.specs.Prelude.{◌≡◌, ◌∷◌, ◌++◌, ◌+◌, ◌-◌, ◌≤◌, ◌<◌, length, take, drop, replicate};
+ghost use Rattle.buffer.specs.Run.{put, all_zero};
 
 // Bytes that are copied at a time, and words that are read at a time.
 const BYTES: usize = 32;
 
 const WORDS: usize = 128;
 
-// Every byte from `at` on is 0; the bytes before it stay. Past the end there is nothing to do.
-pub fn zero_bytes_from(dst: &mut [u8], at: usize)
-    ensures { dst.new ≡ zeroed dst.old at }
+// n times v from `at` on.
+pub fn fill<T: Copy>(dst: &mut [T], at: usize, n: usize, v: T)
+    requires { at + n ≤ length dst.old }
+    ensures { dst.new ≡ put dst.old at (replicate n v) }
 {
-    let mut i = at;
-    while i < dst.len() {
-        dst[i] = 0;
-        i += 1;
+    for x in &mut dst[at..at + n] {
+        *x = v;
     }
 }
 
-// The same of words.
-pub fn zero_words_from(words: &mut [u32], at: usize)
-    ensures { words.new ≡ zeroed words.old at }
+// Every element from `at` on is v; those before it stay. Past the end there is nothing to do.
+pub fn fill_from<T: Copy>(dst: &mut [T], at: usize, v: T)
+    ensures { dst.new ≡ take at dst.old ++ replicate (length dst.old - at) v }
 {
-    let mut w = at;
-    while w < words.len() {
-        words[w] = 0;
-        w += 1;
+    let n = dst.len();
+    if at < n {
+        fill(dst, at, n - at, v);
     }
 }
 
-// Every byte is 0.
-pub fn clear_bytes(dst: &mut [u8])
-    ensures { dst.new ≡ replicate (length dst.old) 0 }
-{
-    zero_bytes_from(dst, 0);
-}
-
-// Every word is 0.
-pub fn clear_words(words: &mut [u32])
-    ensures { words.new ≡ replicate (length words.old) 0 }
-{
-    zero_words_from(words, 0);
-}
-
-// n times the word v from `at` on.
-pub fn fill_words(words: &mut [u32], at: usize, n: usize, v: u32)
-    requires { at + n ≤ length words.old }
-    ensures { words.new ≡ put words.old at (replicate n v) }
-{
-    let mut w = 0;
-    while w < n {
-        words[at + w] = v;
-        w += 1;
-    }
-}
-
-// The n bytes of src from `from` on stand in dst from `at` on.
-pub fn copy_bytes(src: &[u8], from: usize, n: usize, dst: &mut [u8], at: usize)
+// The n elements of src from `from` on stand in dst from `at` on.
+pub fn copy<T: Copy>(src: &[T], from: usize, n: usize, dst: &mut [T], at: usize)
     requires { (from + n ≤ length src.now) × (at + n ≤ length dst.old) }
     ensures { dst.new ≡ put dst.old at (take n (drop from src.now)) }
 {
-    let mut k = 0;
-    while k < n {
-        dst[at + k] = src[from + k];
-        k += 1;
-    }
+    dst[at..at + n].copy_from_slice(&src[from..from + n]);
 }
 
 // A block of src from `from` on stands in dst from `at` on. It is read whole before it is written, so that it goes by few wide moves.
@@ -81,8 +49,8 @@ fn copy_block(src: &[u8], from: usize, dst: &mut [u8], at: usize)
     ensures { dst.new ≡ put dst.old at (take 32 (drop from src.now)) }
 {
     let mut block = [0u8; 32];
-    copy_bytes(src, from, BYTES, &mut block, 0);
-    copy_bytes(&block, 0, BYTES, dst, at);
+    copy(src, from, BYTES, &mut block, 0);
+    copy(&block, 0, BYTES, dst, at);
 }
 
 // The n bytes of src from `from` on stand in dst from `at` on, with the bytes before them kept. What stands behind them is left open: few
@@ -96,7 +64,7 @@ pub fn copy_over(src: &[u8], from: usize, n: usize, dst: &mut [u8], at: usize)
         copy_block(src, from, dst, at);
         return;
     }
-    copy_bytes(src, from, n, dst, at);
+    copy(src, from, n, dst, at);
 }
 
 // A block of blanks.
@@ -108,12 +76,12 @@ fn fill_blanks(dst: &mut [u8], at: usize, n: usize)
     ensures { dst.new ≡ put dst.old at (replicate n 32) }
 {
     let blanks = BLANKS;
-    let mut done = 0;
-    while BYTES <= n - done {
-        copy_bytes(&blanks, 0, BYTES, dst, at + done);
-        done += BYTES;
+    let blocks = n / BYTES;
+    for k in 0..blocks {
+        copy(&blanks, 0, BYTES, dst, at + k * BYTES);
     }
-    copy_bytes(&blanks, 0, n - done, dst, at + done);
+    let done = blocks * BYTES;
+    fill(dst, at + done, n - done, b' ');
 }
 
 // Byte 10, then n blanks, from `at` on.
@@ -130,29 +98,21 @@ fn is_clean(words: &[u32], at: usize) -> bool
     requires { at + 128 ≤ length words.now }
     ensures { result ≡ all_zero (take 128 (drop at words.now)) }
 {
-    let mut clean = true;
-    let mut seen = 0;
-    while seen < WORDS {
-        clean = clean & (words[at + seen] == 0);
-        seen += 1;
-    }
-    clean
+    words[at..at + WORDS]
+        .iter()
+        .fold(true, |clean, w| clean & (*w == 0))
 }
 
 // Every word is 0. A block is written only where it is not 0 yet: of a large buffer that is mostly clean, reading is cheaper.
 pub fn clear_dirty_words(words: &mut [u32])
     ensures { words.new ≡ replicate (length words.old) 0 }
 {
-    let mut at = 0;
-    while at < words.len() {
-        if words.len() - at < WORDS {
-            words[at] = 0;
-            at += 1;
-            continue;
-        }
+    let blocks = words.len() / WORDS;
+    for k in 0..blocks {
+        let at = k * WORDS;
         if !is_clean(words, at) {
-            fill_words(words, at, WORDS, 0);
+            fill(words, at, WORDS, 0);
         }
-        at += WORDS;
     }
+    fill_from(words, blocks * WORDS, 0);
 }

@@ -4,30 +4,18 @@ ghost use Rattle.std.specs.Prelude.{◌≡◌, true, ◌+◌, ◌≤◌, length,
 ghost use Rattle.buffer.specs.Utf8.{well_formed, ascii, no_feed, start};
 ghost use Rattle.buffer.specs.Reader.{starts, GoesOn};
 
-// Whether all bytes are below 128. It reads to the end, so that it goes by whole blocks.
+// Whether all bytes are below 128. It is no `all`: it reads to the end, so that it goes by whole blocks.
 pub fn below_128(bytes: &[u8]) -> bool
     ensures { result ≡ ascii bytes.now }
 {
-    let mut low = true;
-    let mut i = 0;
-    while i < bytes.len() {
-        low = low & (bytes[i] < 128);
-        i += 1;
-    }
-    low
+    bytes.iter().fold(true, |low, b| low & (*b < 128))
 }
 
 // Whether there is no line feed, byte 10.
 pub fn no_feed(bytes: &[u8]) -> bool
     ensures { result ≡ no_feed bytes.now }
 {
-    let mut without = true;
-    let mut i = 0;
-    while i < bytes.len() {
-        without = without & (bytes[i] != 10);
-        i += 1;
-    }
-    without
+    bytes.iter().fold(true, |without, b| without & (*b != 10))
 }
 
 // Bytes that are looked at together.
@@ -55,127 +43,69 @@ struct Owing {
     high: u8,
 }
 
-// After an octet: what is owed, or that the octet can't stand there.
-#[derive(Clone, Copy)]
-enum Next {
-    Owes(Owing),
-    Wrong,
+impl Owing {
+    // So many octets, the first between low and high.
+    fn octets(count: u32, low: u8, high: u8) -> Owing
+        ensures { result ≡ record { count = count; low = low; high = high } }
+    {
+        Owing { count, low, high }
+    }
+
+    // So many UTF8-tails.
+    fn tails(count: u32) -> Owing
+        ensures { result ≡ record { count = count; low = 0x80; high = 0xBF } }
+    {
+        Owing {
+            count,
+            low: 0x80,
+            high: 0xBF,
+        }
+    }
 }
 
-// What a first octet owes, by RFC 3629, section 4.
-fn start_of(b: u8) -> Next
+// What a first octet owes, by RFC 3629, section 4; `None` where no character starts with it.
+fn start_of(b: u8) -> Option<Owing>
     ensures { starts result ≡ start b }
 {
-    if b <= 0x7F {
-        return Next::Owes(Owing {
-            count: 0,
-            low: 0x80,
-            high: 0xBF,
-        });
+    match b {
+        0x00..=0x7F => Some(Owing::tails(0)),
+        0xC2..=0xDF => Some(Owing::tails(1)),
+        0xE0 => Some(Owing::octets(2, 0xA0, 0xBF)),
+        0xE1..=0xEC | 0xEE..=0xEF => Some(Owing::tails(2)),
+        0xED => Some(Owing::octets(2, 0x80, 0x9F)),
+        0xF0 => Some(Owing::octets(3, 0x90, 0xBF)),
+        0xF1..=0xF3 => Some(Owing::tails(3)),
+        0xF4 => Some(Owing::octets(3, 0x80, 0x8F)),
+        _ => None,
     }
-    if b < 0xC2 {
-        return Next::Wrong;
-    }
-    if b <= 0xDF {
-        return Next::Owes(Owing {
-            count: 1,
-            low: 0x80,
-            high: 0xBF,
-        });
-    }
-    if b <= 0xE0 {
-        return Next::Owes(Owing {
-            count: 2,
-            low: 0xA0,
-            high: 0xBF,
-        });
-    }
-    if b <= 0xEC {
-        return Next::Owes(Owing {
-            count: 2,
-            low: 0x80,
-            high: 0xBF,
-        });
-    }
-    if b <= 0xED {
-        return Next::Owes(Owing {
-            count: 2,
-            low: 0x80,
-            high: 0x9F,
-        });
-    }
-    if b <= 0xEF {
-        return Next::Owes(Owing {
-            count: 2,
-            low: 0x80,
-            high: 0xBF,
-        });
-    }
-    if b <= 0xF0 {
-        return Next::Owes(Owing {
-            count: 3,
-            low: 0x90,
-            high: 0xBF,
-        });
-    }
-    if b <= 0xF3 {
-        return Next::Owes(Owing {
-            count: 3,
-            low: 0x80,
-            high: 0xBF,
-        });
-    }
-    if b <= 0xF4 {
-        return Next::Owes(Owing {
-            count: 3,
-            low: 0x80,
-            high: 0x8F,
-        });
-    }
-    Next::Wrong
 }
 
-// One octet.
-fn octet(o: Owing, b: u8) -> Next
+// What is owed after one octet more; `None` where it can't stand there.
+fn octet(o: Owing, b: u8) -> Option<Owing>
     ensures { GoesOn o b result }
 {
     if o.count == 0 {
         return start_of(b);
     }
-    if b < o.low {
-        return Next::Wrong;
+    if b < o.low || o.high < b {
+        return None;
     }
-    if o.high < b {
-        return Next::Wrong;
-    }
-    Next::Owes(Owing {
-        count: o.count - 1,
-        low: 0x80,
-        high: 0xBF,
-    })
+    Some(Owing::tails(o.count - 1))
 }
 
 // Whether the bytes are well-formed UTF-8 by RFC 3629.
 pub fn well_formed(bytes: &[u8]) -> bool
     ensures { result ≡ well_formed bytes.now }
 {
-    let mut o = Owing {
-        count: 0,
-        low: 0x80,
-        high: 0xBF,
-    };
-    let mut i = 0;
-    while i < bytes.len() {
-        if o.count == 0 && bytes[i] < 128 {
-            i += 1;
+    let mut o = Owing::tails(0);
+    for b in bytes {
+        if o.count == 0 && *b < 128 {
             continue;
         }
-        let next = octet(o, bytes[i]);
-        let Next::Owes(p) = next else {
+        let Some(next) = octet(o, *b) else {
             return false;
         };
-        o = p;
-        i += 1;
+        o = next;
     }
     o.count == 0
 }

@@ -121,7 +121,7 @@ impl Counts {
             return self.add(table, words_of(NIL, 0, 0, 0));
         }
         let at = self.bytes;
-        buffer::copy_bytes(bytes, 0, size, text, at as usize);
+        buffer::copy(bytes, 0, size, text, at as usize);
         let long = size as u32;
         let longer = Counts {
             nodes: self.nodes,

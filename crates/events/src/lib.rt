@@ -108,8 +108,8 @@ fn staged(
         result out.new (published words.new result.events slots) work.new }
 {
     if RECORDS < slots {
-        buffer::clear_bytes(out);
-        buffer::clear_words(work);
+        out.fill(0);
+        work.fill(0);
         return Report {
             answer: 1,
             place: NodeNo(0),

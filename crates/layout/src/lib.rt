@@ -107,8 +107,8 @@ pub fn layout(
     let report = decide(table, text, width, limit, out, events, work);
     let used = report.used as usize;
     let words = (report.events as usize) * EVENT_WORDS;
-    buffer::zero_bytes_from(out, used);
-    buffer::zero_words_from(events, words);
+    buffer::fill_from(out, used, 0);
+    buffer::fill_from(events, words, 0);
     buffer::clear_dirty_words(work);
     report
 }

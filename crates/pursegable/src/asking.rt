@@ -84,7 +84,7 @@ fn answer_in_numbers(answer: Answer) -> Numbers
 fn tell_why(w: Numbers, report: &mut [u32])
     ensures { report.new ≡ told (five_why (numbers_of w)) (length report.old) }
 {
-    buffer::clear_words(report);
+    report.fill(0);
     if report.len() < REPORT_WORDS {
         return;
     }

@@ -43,7 +43,7 @@ fn limit_for(limit: u32, words: usize) -> u32
 fn tell(r: Report, report: &mut [u32])
     ensures { report.new ≡ told (five_of r) (length report.old) }
 {
-    buffer::clear_words(report);
+    report.fill(0);
     if report.len() < REPORT_WORDS {
         return;
     }

@@ -112,10 +112,10 @@ fn store(out: &mut [u32], count: usize, times: usize, v: u32) -> usize
 {
     let room = out.len() - count;
     if room < times {
-        buffer::fill_words(out, count, room, v);
+        buffer::fill(out, count, room, v);
         return out.len();
     }
-    buffer::fill_words(out, count, times, v);
+    buffer::fill(out, count, times, v);
     count + times
 }
 

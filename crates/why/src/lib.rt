@@ -136,8 +136,8 @@ pub fn why(
         result out.new events.new work.new }
 {
     let answer = decide(table, text, width, limit, step, out, events, work);
-    buffer::clear_bytes(out);
-    buffer::clear_words(events);
+    out.fill(0);
+    events.fill(0);
     buffer::clear_dirty_words(work);
     answer
 }

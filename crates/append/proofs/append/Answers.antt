@@ -10,4 +10,4 @@ returns-then-room-at-2 c = over _ _ _ c.if-room-at.false c.if-room-at-2.true
 
 pub returns : goal.returns
 returns c =
-    placed _ _ _ c.if-room-at.false c.if-room-at-2.false _ c.copy_bytes.ensures
+    placed _ _ _ c.if-room-at.false c.if-room-at-2.false _ c.copy.ensures

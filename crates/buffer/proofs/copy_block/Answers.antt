@@ -14,6 +14,6 @@ returns c =
     let a = c.args in
     let run = take 32 (drop a.from a.src.now) in
     let there : length run ≡ 32 = simp (length-take, length-drop) (omega arith) in
-    c.copy_bytes-2.ensures
-    ∙ ap (λ (l : List ℕ). put a.dst.now a.at (take 32 (drop 0 l))) c.copy_bytes.ensures
+    c.copy-2.ensures
+    ∙ ap (λ (l : List ℕ). put a.dst.now a.at (take 32 (drop 0 l))) c.copy.ensures
     ∙ ap (put a.dst.now a.at) (take_put _ 0 run 32 there (omega arith))

@@ -23,4 +23,4 @@ returns-then-dst-at-ge-BYTES c =
 pub returns : goal.returns
 returns c =
     let a = c.args in
-    copied-over a.dst.now a.at a.src.now a.from a.n a.n _ (omega arith) (omega arith) (omega arith) c.copy_bytes.ensures
+    copied-over a.dst.now a.at a.src.now a.from a.n a.n _ (omega arith) (omega arith) (omega arith) c.copy.ensures

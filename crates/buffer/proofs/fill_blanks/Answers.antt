@@ -1,26 +1,24 @@
-use native.Mathlib.Omega.{arith}
-use mathlib.Core.Path.{◌≡◌, ap, ◌∙◌}
-use Prim.Native.Nat.{ℕ, ◌+◌, ◌-◌, ◌≤◌}
-use lib.ListN.{length, replicate}
+-- `buffer::fill_blanks` meets its contract. Assumes nothing.
+use Rattle.std.proofs.Common.{◌≡◌, ◌∙◌, ap, ℕ, ◌+◌, ◌-◌, ◌*◌, ◌/◌, replicate, arith}
 use Rattle.buffer.specs.Run.{put}
-use Rattle.buffer.proofs.Put.{fill_none, fill_part}
+use Rattle.buffer.proofs.Put.{fill_none, fill_part, fill-run}
 use Rattle.buffer.proofs.fill_blanks.Goals as goal
 
-pub loop-done-init : goal.loop-done-init
-loop-done-init c = (omega arith, fill_none c.args.dst.now c.args.at 32)
+pub loop-k-init : goal.loop-k-init
+loop-k-init c = fill_none c.args.dst.now c.args.at 32
 
-pub loop-done-preserved : goal.loop-done-preserved
-loop-done-preserved c =
-    let L = c.loop-done in
+pub loop-k-preserved : goal.loop-k-preserved
+loop-k-preserved c =
+    let L = c.loop-k in
     let a = c.args in
-    let h : a.at + L.done + 32 ≤ length a.dst.now = omega arith in
-    (omega arith, fill_part a.dst.now a.at 32 L.done 32 L.dst h L.invariant.1 32 _ (omega arith) c.copy_bytes.ensures)
+    let next : (L.k + 1) * 32 ≡ L.k * 32 + 32 = omega arith in
+    rw next (fill_part a.dst.now a.at 32 (L.k * 32) 32 L.dst (omega arith) L.invariant 32 _ (omega arith) c.copy.ensures)
 
 pub returns : goal.returns
 returns c =
-    let L = c.loop-done in
+    let L = c.loop-k in
     let a = c.args in
-    let h : a.at + L.done + (a.n - L.done) ≤ length a.dst.now = omega arith in
-    let all : L.done + (a.n - L.done) ≡ a.n = omega arith in
-    let filled = fill_part a.dst.now a.at 32 L.done (a.n - L.done) L.dst h L.invariant.1 32 _ (omega arith) c.copy_bytes-2.ensures in
-    filled.0 ∙ ap (λ (k : ℕ). put a.dst.now a.at (replicate k 32)) all
+    let done = a.n / 32 * 32 in
+    let here : L.k * 32 ≡ done = omega arith in
+    let all : done + (a.n - done) ≡ a.n = omega arith in
+    c.fill.ensures ∙ (fill-run a.dst.now a.at 32 done (a.n - done) L.dst (omega arith) (rw here at L.invariant)).0 ∙ ap (λ (k : ℕ). put a.dst.now a.at (replicate k 32)) all

@@ -1,10 +1,7 @@
--- `buffer::fill_blanks` meets its contract: so far so many blanks stand from `at` on, by whole blocks. Assumes nothing.
-use Prim.Native.Nat.{◌-◌, ◌≤◌}
+-- `buffer::fill_blanks` meets its contract: so far k blocks of blanks stand from `at` on. Assumes nothing.
+use Rattle.std.proofs.Common.{◌*◌}
 use Rattle.buffer.proofs.Put.{Filling}
 use Rattle.buffer.proofs.fill_blanks.Given as goal
 
-abbrev pub invariant-loop-done : goal.invariant-loop-done
-invariant-loop-done l = (l.done ≤ l.n) × Filling l.initial.dst l.at 32 l.done l.dst
-
-abbrev pub decreases-loop-done : goal.decreases-loop-done
-decreases-loop-done l = l.n - l.done
+abbrev pub invariant-loop-k : goal.invariant-loop-k
+invariant-loop-k l = Filling l.initial.dst l.at 32 (l.k * 32) l.dst

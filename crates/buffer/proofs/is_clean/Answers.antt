@@ -1,30 +1,18 @@
-use native.Mathlib.Omega.{arith}
-use Prim.Native.Nat.{ℕ, ◌+◌, ◌<◌}
-use mathlib.Core.Bool.{Bool, ◌&&◌}
-use lib.ListN.{length, take, drop, get_or, length-drop}
-use lib.Seq.{get_or-drop}
-use lib.Dec.{eqb}
+-- `buffer::is_clean` meets its contract. Assumes nothing.
+use Rattle.std.proofs.Common.{◌≡◌, ◌∙◌, refl, ap, ◌+◌, ◌-◌, true, ◌&&◌, eqb, take, drop, rules, tests}
+use Rattle.std.proofs.lemmas.Iterator.{YieldsList-from_slice}
+use Rattle.std.proofs.lemmas.Iterator.Consumers.{fold_from_yields_List}
+use Rattle.std.specs.List.{fold}
 use Rattle.buffer.specs.Run.{all_zero}
-use Rattle.buffer.proofs.Put.{zero_more}
-use mathlib.Core.Path.{◌≡◌, refl, sym, ap, ◌∙◌}
+use Rattle.buffer.proofs.Octets.{fold-and}
+use Rattle.buffer.proofs.Put.{part-is}
 use Rattle.buffer.proofs.is_clean.Goals as goal
 
-pub loop-seen-init : goal.loop-seen-init
-unfolding all_zero
-loop-seen-init c = (omega arith, refl)
-
-pub loop-seen-preserved : goal.loop-seen-preserved
-loop-seen-preserved c =
-    let L = c.loop-seen in
-    let a = c.args in
-    let words = a.words.now in
-    let l = drop a.at words in
-    let in-l : L.seen < length l = simp length-drop (omega arith) in
-    (omega arith, ap (λ (q : Bool). q && eqb (get_or words (a.at + L.seen) 0) 0) L.invariant.1 ∙ ap (λ (x : ℕ). all_zero (take L.seen l) && eqb x 0) (sym (get_or-drop a.at words L.seen 0)) ∙ zero_more l L.seen in-l)
-
 pub returns : goal.returns
+unfolding all_zero
 returns c =
-    let L = c.loop-seen in
     let a = c.args in
-    let e : L.seen ≡ 128 = omega arith in
-    L.invariant.1 ∙ ap (λ (n : ℕ). all_zero (take n (drop a.at a.words.now))) e
+    let s = take (a.at + 128 - a.at) (drop a.at a.words.now) in
+    let e : c.fold.result ≡ fold (λ all w. all && eqb w 0) true s =
+    fold_from_yields_List _ (λ all w. all && eqb w 0) true c.fold.result c.fold.ensures.ran (YieldsList-from_slice s cc) (λ a x b q k. search (rules, tests)) in
+    e ∙ fold-and all_zero (λ w. eqb w 0) refl (λ w ws. refl) s ∙ ap all_zero (part-is a.words.now a.at 128)

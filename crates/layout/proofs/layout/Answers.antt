@@ -12,6 +12,6 @@ returns c =
     decided.auto.out
     decided.auto.events
     decided.auto.work
-    c.zero_bytes_from.ensures
-    c.zero_words_from.ensures
+    c.fill_from.ensures
+    c.fill_from-2.ensures
     c.clear_dirty_words.ensures

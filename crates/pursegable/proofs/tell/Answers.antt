@@ -4,4 +4,4 @@ use Rattle.pursegable.proofs.Answering.{told-set}
 use Rattle.pursegable.proofs.tell.Goals as goal
 
 pub returns : goal.returns
-returns c = told-set _ (length c.args.report.now) _ _ _ _ _ c.clear_words.ensures c.if-report-lt-REPORT_WORDS.false
+returns c = told-set _ (length c.args.report.now) _ _ _ _ _ (c.fill.ensures.after (λ y e. e)) c.if-report-lt-REPORT_WORDS.false

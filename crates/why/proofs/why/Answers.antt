@@ -9,7 +9,7 @@ returns c =
     let kept = c.decide-answer.auto in
     record {
       same = c.decide-answer.ensures;
-      output = c.clear_bytes.ensures ∙ ap (λ n. replicate n 0) kept.out;
-      noted = c.clear_words.ensures ∙ ap (λ n. replicate n 0) kept.events;
+      output = c.fill.ensures.after (λ y e. e) ∙ ap (λ n. replicate n 0) kept.out;
+      noted = c.fill-2.ensures.after (λ y e. e) ∙ ap (λ n. replicate n 0) kept.events;
       cleared = c.clear_dirty_words.ensures ∙ ap (λ n. replicate n 0) kept.work;
     }

@@ -1,12 +1,7 @@
--- `buffer::parts::columns` meets its contract: characters counted so far and those that are left are all of them. Assumes nothing.
-use mathlib.Core.Path.{◌≡◌}
-use Prim.Native.Nat.{◌+◌, ◌-◌, ◌≤◌}
-use lib.ListN.{length, drop}
-use Rattle.buffer.specs.Parts.{characters}
+-- `buffer::parts::columns` meets its contract: so far the characters are counted. Assumes nothing.
+use Rattle.std.proofs.Common.{◌≡◌, ◌||◌, ltb, take}
+use Rattle.std.specs.List.{count_by}
 use Rattle.buffer.proofs.parts.columns.Given as goal
 
-abbrev pub invariant-loop-i : goal.invariant-loop-i
-invariant-loop-i l = (l.i ≤ length l.s) × (l.count ≤ l.i) × (l.count + characters (drop l.i l.s) ≡ characters l.s)
-
-abbrev pub decreases-loop-i : goal.decreases-loop-i
-decreases-loop-i l = length l.s - l.i
+abbrev pub invariant-loop-b : goal.invariant-loop-b
+invariant-loop-b l = l.count ≡ count_by (λ b. ltb b 128 || ltb 191 b) (take l.b-index l.s)

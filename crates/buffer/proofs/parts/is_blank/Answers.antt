@@ -1,22 +1,9 @@
-use native.Mathlib.Omega.{arith}
-use mathlib.Core.Path.{refl, sym, ◌∙◌}
-use Rattle.buffer.proofs.Reading.{blank-next, blank-not, all-blank}
+-- `buffer::parts::is_blank` meets its contract. Assumes nothing.
+use Rattle.std.proofs.Common.{eqb, refl, rules}
+use Rattle.std.proofs.lemmas.List.Recursion.{and_is}
+use Rattle.buffer.specs.Parts.{blank}
 use Rattle.buffer.proofs.parts.is_blank.Goals as goal
 
-pub loop-i-init : goal.loop-i-init
-loop-i-init c = (omega arith, refl)
-
-pub returns-then-s-i-ne32 : goal.returns-then-s-i-ne32
-returns-then-s-i-ne32 c =
-    let L = c.loop-i in
-    let s = c.args.s.now in
-    sym (sym L.invariant.1 ∙ blank-not s L.i (omega arith) c.if-s-i-ne32.true)
-
-pub loop-i-preserved : goal.loop-i-preserved
-loop-i-preserved c =
-    let L = c.loop-i in
-    let s = c.args.s.now in
-    (omega arith, sym (blank-next s L.i (omega arith) c.if-s-i-ne32.false) ∙ L.invariant.1)
-
 pub returns : goal.returns
-returns c = let L = c.loop-i in let s = c.args.s.now in sym (sym L.invariant.1 ∙ all-blank s L.i (omega arith))
+unfolding blank
+returns c = and_is blank (λ b. eqb b 32) refl (λ _ _. refl) c.args.s.now 0 _ (search rules) (search rules)

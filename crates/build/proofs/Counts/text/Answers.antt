@@ -24,8 +24,8 @@ returns-then-size-eq0 c =
     text-empty args.self args.table.now args.text.now args.bytes.now args.columns.0 c.columns_right-right.ensures asked c.if-size-eq0.true
     c.add.ensures.0 (rw c.words_of.ensures at c.add.ensures.1)
 
-pub copy_bytes-requires : goal.copy_bytes-requires
-copy_bytes-requires c =
+pub copy-requires : goal.copy-requires
+copy-requires c =
     let args = c.args in
     let asked = rw c.of.ensures at c.in_ok-ask.ensures in
     let room = text_byte-room args.self args.table.now args.text.now args.bytes.now args.columns.0 c.columns_right-right.ensures asked c.if-size-eq0.false in
@@ -56,4 +56,4 @@ returns c =
     let args = c.args in
     let asked = rw c.of.ensures at c.in_ok-ask.ensures in
     text-full args.self args.table.now args.text.now args.bytes.now args.columns.0 c.columns_right-right.ensures asked c.if-size-eq0.false
-    c.add-2.ensures.0 (rw c.words_of-2.ensures at c.add-2.ensures.1) c.copy_bytes.ensures
+    c.add-2.ensures.0 (rw c.words_of-2.ensures at c.add-2.ensures.1) c.copy.ensures

@@ -6,4 +6,4 @@ use Rattle.pursegable.proofs.asking.tell_why.Goals as goal
 
 pub returns : goal.returns
 returns c =
-    told-set _ (length c.args.report.now) _ _ _ _ _ c.clear_words.ensures c.if-report-lt-REPORT_WORDS.false
+    told-set _ (length c.args.report.now) _ _ _ _ _ (c.fill.ensures.after (λ y e. e)) c.if-report-lt-REPORT_WORDS.false

@@ -5,9 +5,9 @@ use Rattle.replay.proofs.lines.store.Goals as goal
 pub returns-then-room-times : goal.returns-then-room-times
 returns-then-room-times c =
     let a = c.args in
-    store-some a.out.now a.count a.times a.v c.requires _ c.if-room-times.true c.fill_words.ensures
+    store-some a.out.now a.count a.times a.v c.requires _ c.if-room-times.true c.fill.ensures
 
 pub returns : goal.returns
 returns c =
     let a = c.args in
-    store-all a.out.now a.count a.times a.v c.requires _ c.if-room-times.false c.fill_words-2.ensures
+    store-all a.out.now a.count a.times a.v c.requires _ c.if-room-times.false c.fill-2.ensures
