@@ -5,3 +5,4 @@ pub mod Answers
 pub mod Sound
 pub mod Unfolded
 pub mod Nodes
+pub mod Refusals

@@ -7,3 +7,4 @@ pub mod Unfold
 pub mod Document
 pub mod Sound
 pub mod Valid
+pub mod Refusal

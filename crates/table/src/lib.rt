@@ -12,6 +12,10 @@ ghost use Rattle.table.specs.Fault.{unused_zero, children_below, nest_in_range, 
 
 use buffer::utf8::{below_128, no_feed, plainly_below_128, well_formed};
 
+mod refusal;
+
+pub use refusal::Refusal;
+
 // The kinds by name, with document 01's numbers.
 pub const NIL: u32 = 0;
 
