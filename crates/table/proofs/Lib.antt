@@ -1,4 +1,5 @@
 -- The laws of the node table, with no code in sight.
+pub mod KindNumbers
 pub mod KindRule
 pub mod Accept
 pub mod Answers

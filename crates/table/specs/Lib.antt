@@ -1,4 +1,5 @@
 -- The definitions of the node table, in the order in which they stand on each other.
+pub mod Refusal
 pub mod Kinds
 pub mod Node
 pub mod Fault
@@ -7,4 +8,3 @@ pub mod Unfold
 pub mod Document
 pub mod Sound
 pub mod Valid
-pub mod Refusal

@@ -1,5 +1,5 @@
 -- The number of a refusal: document 01's for each of answers 1 to 9.
-use Rattle.std.specs.Prelude.{ℕ}
+use Rattle.std.specs.Prelude.{ℕ, Result, Ok, Err}
 use Rattle.table.specs.declared.refusal.Refusal.{Refusal}
 use Rattle.table.specs.declared.refusal.Refusal.TheVariants.{BadSize, BadKind, BadChild, BadRange, BadText, FailMet, NoSteps, NoOutput, NoEvents}
 
@@ -14,3 +14,8 @@ number FailMet = 6
 number NoSteps = 7
 number NoOutput = 8
 number NoEvents = 9
+
+-- the number that answers: 0, or the refusal's
+abbrev pub answer_of : {A : Type 0} → Result A Refusal → ℕ
+answer_of (Ok done) = 0
+answer_of (Err why) = number why
