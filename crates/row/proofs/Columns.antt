@@ -7,7 +7,12 @@ use native.Mathlib.Omega.{arith}
 use mathlib.Core.Path.{◌≡◌, refl, ap, ◌∙◌, subst}
 use mathlib.Core.List.{List, [], ◌∷◌, ◌++◌}
 use lib.ListN.{length, take, drop, replicate}
-use borrow.Author.Tests.{eq-eqb, ne_eqb}
+use lib.Dec.{eqb}
+use Rattle.std.specs.Prelude.{Option, Some, None}
+use Rattle.choice.specs.Pick.{pick}
+use Rattle.results.specs.Marks.{number_of, label_number}
+use Rattle.results.specs.declared.tolerance.Mark.{Mark}
+use Rattle.results.specs.declared.tolerance.Mark.TheVariants.{Force, Pluck, Both}
 use Rattle.table.specs.Document.{Doc, annotated}
 use Rattle.buffer.specs.Parts.{index_of, characters}
 use Rattle.results.specs.declared.Pallet.{Pallet}
@@ -67,11 +72,16 @@ fields-add {out} line p {size} e {note} g {wide} {blanks} w f {out₁} {r₁} a 
 
 -- ---- the mark
 
-module _ (label k : ℕ) (e : label ≡ k) (d : Doc) where
-  pub marked-none : label ≡ 0 → d ≡ marked_doc k d
+module _ {mark : Option Mark} {k : ℕ} (e : label_number mark ≡ k) (d : Doc) where
+  pub marked-none : mark ≡ None → d ≡ marked_doc k d
   unfolding marked_doc
-  marked-none z = rw (← e, eq-eqb label 0 z)
+  marked-none z = rw (← e, z) refl
 
-  pub marked-some : (label ≡ 0 → ⊥) → annotated d label ≡ marked_doc k d
+  pub marked-some : (m : Mark) (n : ℕ) → mark ≡ Some m → n ≡ number_of m → annotated d n ≡ marked_doc k d
   unfolding marked_doc
-  marked-some z = rw (← e, ne_eqb label 0 z)
+  marked-some m n z f = rw (← e, z, f) (go m)
+    where
+      go : (m : Mark) → annotated d (number_of m) ≡ pick (eqb (number_of m) 0) d (annotated d (number_of m))
+      go Force = refl
+      go Pluck = refl
+      go Both = refl

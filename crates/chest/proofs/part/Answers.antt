@@ -16,16 +16,16 @@ behind-requires c = tt
 pub heading-requires : goal.heading-requires
 heading-requires c = tt
 
-pub returns-in-Row : goal.returns-in-Row
-returns-in-Row c =
-    λ s. gives refl (says_row _ (sym c.in-Row.is ∙ c.parse-says.ensures)) (c.row.ensures s)
+pub returns-in-Ok-Row : goal.returns-in-Ok-Row
+returns-in-Ok-Row c =
+    λ s. gives refl (says_row _ (sym c.in-Ok-Row.is ∙ c.parse-says.ensures)) (c.row.ensures s)
 
-pub returns-in-Heading : goal.returns-in-Heading
-returns-in-Heading c =
+pub returns-in-Ok-Heading : goal.returns-in-Ok-Heading
+returns-in-Ok-Heading c =
     λ s. gives refl (says-heading _ c.behind.ensures (cc)) (c.heading.ensures s)
 
-pub returns-in-Empty : goal.returns-in-Empty
-returns-in-Empty c = λ s. gives refl (says-empty _ (cc)) (given s.hardline)
+pub returns-in-Ok-Empty : goal.returns-in-Ok-Empty
+returns-in-Ok-Empty c = λ s. gives refl (says-empty _ (cc)) (given s.hardline)
 
-pub returns-in-Bad : goal.returns-in-Bad
-returns-in-Bad c = λ s. gives refl (says-fault _ (sym c.in-Bad.is ∙ c.parse-says.ensures)) (given s.none)
+pub returns-in-Err : goal.returns-in-Err
+returns-in-Err c = λ s. gives refl (says-fault _ (sym c.in-Err.is ∙ c.parse-says.ensures)) (given s.none)

@@ -20,17 +20,14 @@ pub ended-made-requires : goal.ended-made-requires
 ended-made-requires c =
     (row-sound _ _ c.requires).short
 
-pub label-mark-requires : goal.label-mark-requires
-label-mark-requires c = tt
-
-pub returns-then-mark-eq0 : goal.returns-then-mark-eq0
+pub returns-in_default-label : goal.returns-in_default-label
 unfolding row_doc
-returns-then-mark-eq0 c =
+returns-in_default-label c =
     let is = row-bytes _ _ c.requires c.put_row-n.ensures c.front.ensures in
     λ s.
     gives
     refl
-    (marked-none c.label-mark.result _ c.label-mark.ensures _ c.if-mark-eq0.true)
+    (marked-none c.label.ensures _ c.in_default-label.is)
     (after (gives refl (ap leaf_doc is) c.leaf-made.ensures) c.in-Node.is (λ b. c.ended-made.ensures _ (shares-kept b s) (new b)))
 
 pub returns-in_default-made : goal.returns-in_default-made
@@ -46,5 +43,5 @@ returns c =
     λ s.
     gives
     refl
-    (marked-some c.label-mark.result _ c.label-mark.ensures _ c.if-mark-eq0.false)
-    (after (gives refl (ap leaf_doc is) c.leaf-made.ensures) c.in-Node.is (λ b. after (c.ended-made.ensures _ (shares-kept b s) (new b)) c.in-Node-made.is (λ q. annotates (new q) c.label-mark.result c.annotate.ensures)))
+    (marked-some c.label.ensures _ c.in-Some.mark c.from.result c.in-Some.is c.from.ensures)
+    (after (gives refl (ap leaf_doc is) c.leaf-made.ensures) c.in-Node.is (λ b. after (c.ended-made.ensures _ (shares-kept b s) (new b)) c.in-Node-made.is (λ q. annotates (new q) c.from.result c.annotate.ensures)))
