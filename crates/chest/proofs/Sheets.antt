@@ -18,7 +18,8 @@ use Rattle.build.specs.Documents.{append_doc, joined_doc, concat_doc}
 use Rattle.build.specs.Promise.{ValidSoFar}
 use Rattle.buffer.specs.Parts.{between, index_of, lines, LineEnds, body_end}
 use Rattle.buffer.proofs.Reading.{done, line_first}
-use Rattle.std.specs.Prelude.{Ok, Err}
+use Rattle.std.specs.Prelude.{Result, Ok, Err}
+use Rattle.results.specs.declared.Line.{Line}
 use Rattle.results.specs.Pallets.{parsed}
 use Rattle.results.specs.declared.Pallet.{Pallet}
 use Rattle.results.specs.declared.Fault.{Fault}
@@ -48,6 +49,10 @@ module _ {s : List ℕ} {at end : ℕ} (l : LineEnds s at end) (h : at < length 
 
   pub count_next : length (lines (drop at s)) ≡ length (lines (drop (end + 1) s)) + 1
   count_next = ap length lines_next ∙ omega arith
+
+-- what a line says that is not at fault
+pub says-sound : (line : List ℕ) {r : Result Line Fault} {l l' : Line} → r ≡ Ok l → l ≡ l' → r ≡ parsed line → Ok l' ≡ parsed line
+says-sound line e f g = subst (λ (m : Line). Ok m ≡ parsed line) f (sym e ∙ g)
 
 -- what is known of a line is what it says
 module _ (line : List ℕ) where

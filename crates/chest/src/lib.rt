@@ -64,12 +64,13 @@ fn part(c: Counts, table: &mut [u32], text: &mut [u8], shared: Shared, line: &[u
 {
     let none = shared.none;
     let hardline = shared.hardline;
-    let says = parse(line);
+    let Ok(says) = parse(line) else {
+        return Made::Node(c, none);
+    };
     match says {
-        Ok(Line::Row(p)) => row(c, table, text, shared, line, p),
-        Ok(Line::Heading) => heading(c, table, text, shared, behind(line, 1)),
-        Ok(Line::Empty) => Made::Node(c, hardline),
-        Err(_) => Made::Node(c, none),
+        Line::Row(p) => row(c, table, text, shared, line, p),
+        Line::Heading => heading(c, table, text, shared, behind(line, 1)),
+        Line::Empty => Made::Node(c, hardline),
     }
 }
 
