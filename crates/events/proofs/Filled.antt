@@ -1,13 +1,12 @@
 -- A slice that a loop fills from its start: after i turns its first i elements are the new ones, and the rest is as it was.
 --     records-length, records-same    m elements by their number; all of them the same
---     filled-..                       before the first turn, one turn more, the length, after the last turn
+--     filled-..                       before the first turn, one turn more, after the last turn
 -- Assumes nothing.
 use mathlib.Core.Path.{◌≡◌, refl, sym, ap, ◌∙◌}
 use mathlib.Core.List.{List, [], ◌∷◌, ◌++◌, append-nil}
-use Prim.Native.Nat.{ℕ, zero, suc, ◌+◌, ◌<◌, ◌≤◌}
+use Prim.Native.Nat.{ℕ, zero, suc, ◌+◌, ◌<◌}
 use native.Mathlib.Numerals.{add-one}
-use native.Mathlib.Omega.{arith}
-use lib.ListN.{length, set, drop, replicate, length-append, length-drop, replicate-append-replicate}
+use lib.ListN.{length, set, drop, replicate, length-append, replicate-append-replicate}
 use lib.Seq.{drop-cons, set_at, append_snoc, drop-length}
 use Rattle.events.specs.Records.{records}
 
@@ -44,10 +43,6 @@ module _ {A : Type 0} where
       ∙ sym (append_snoc (records f i) (f i) (drop (suc i) d))
       ∙ ap (λ (l : List A). l ++ drop (suc i) d) (records-suc f i)
       ∙ ap (λ (k : ℕ). records f (i + 1) ++ drop k d) (sym (add-one i))
-
-  pub filled-length : (f : ℕ → A) (d : List A) (i : ℕ) → i ≤ length d → length (filled f d i) ≡ length d
-  unfolding filled
-  filled-length f d i h = simp (length-append, records-length f i, length-drop) (omega arith)
 
   pub filled-all : (f : ℕ → A) (d : List A) → filled f d (length d) ≡ records f (length d)
   unfolding filled

@@ -37,10 +37,7 @@ pub fn none() -> Event
 pub fn record_at(words: &[u32], used: u32, k: usize) -> Event
     ensures { result ≡ record_at words.now used k }
 {
-    if used as usize <= k {
-        return none();
-    }
-    if words.len() / EVENT_WORDS <= k {
+    if used as usize <= k || words.len() / EVENT_WORDS <= k {
         return none();
     }
     let at = k * EVENT_WORDS;
@@ -64,25 +61,15 @@ pub fn push(events: &mut [Event], at: usize, e: Event)
 pub fn clear(events: &mut [Event])
     ensures { events.new ≡ replicate (length events.old) none }
 {
-    let mut i = 0;
-    while i < events.len() {
-        events[i] = Event {
-            offset: 0,
-            mark: 0,
-            label: 0,
-        };
-        i += 1;
-    }
+    events.fill(none());
 }
 
 // Writes every record: the first `used` from the words, zeros past them.
 pub fn publish(words: &[u32], used: u32, out: &mut [Event])
     ensures { out.new ≡ published words.now used (length out.old) }
 {
-    let mut i = 0;
-    while i < out.len() {
-        out[i] = record_at(words, used, i);
-        i += 1;
+    for (k, slot) in out.iter_mut().enumerate() {
+        *slot = record_at(words, used, k);
     }
 }
 

@@ -96,7 +96,8 @@ fn tell_why(w: Numbers, report: &mut [u32])
 }
 
 // Why the Group that is visited at this step goes flat or broken. The answer is returned, and is the report's first word.
-pub fn pursegable_why(
+#[unsafe(no_mangle)]
+pub extern "C" fn pursegable_why(
     table: &[u32],
     text: &[u8],
     width: u32,

@@ -15,7 +15,8 @@ use table::{Column, Indent, NodeNo};
 const AFFIXES: usize = 8;
 
 // Any constructor but text, concat and intersperse. Its operands are a node's words as the table has them.
-pub fn pursegable_make(
+#[unsafe(no_mangle)]
+pub extern "C" fn pursegable_make(
     what: u32,
     a: u32,
     b: u32,
@@ -39,7 +40,8 @@ pub fn pursegable_make(
 }
 
 // A Text of these bytes, so many columns wide.
-pub fn pursegable_text(
+#[unsafe(no_mangle)]
+pub extern "C" fn pursegable_text(
     bytes: &[u8],
     columns: u32,
     table: &mut [u32],
@@ -58,7 +60,8 @@ pub fn pursegable_text(
 }
 
 // The nodes joined.
-pub fn pursegable_concat(nodes: &[u32], table: &mut [u32], text: &[u8], counts: &mut [u32]) -> u32
+#[unsafe(no_mangle)]
+pub extern "C" fn pursegable_concat(nodes: &[u32], table: &mut [u32], text: &[u8], counts: &mut [u32]) -> u32
     ensures { left result table.new text.now counts.new ≡
         built (λ c t x. concat_made c t x nodes.now)
         table.old text.now counts.old }
@@ -71,7 +74,8 @@ pub fn pursegable_concat(nodes: &[u32], table: &mut [u32], text: &[u8], counts: 
 }
 
 // The nodes joined, with the separator between each two.
-pub fn pursegable_intersperse(
+#[unsafe(no_mangle)]
+pub extern "C" fn pursegable_intersperse(
     nodes: &[u32],
     separator: u32,
     table: &mut [u32],
@@ -94,16 +98,15 @@ fn set_flags(bytes: &[u8], flags: &mut [bool])
     requires { length bytes.now ≤ length flags.old }
     ensures { take (length bytes.now) flags.new ≡ flags_of bytes.now }
 {
-    let mut i = 0;
-    while i < bytes.len() {
-        flags[i] = bytes[i] != 0;
-        i += 1;
+    for (i, byte) in bytes.iter().enumerate() {
+        flags[i] = *byte != 0;
     }
 }
 
 // The layouts of a body between affixes: their prefixes, their suffixes, and for each whether it is nested. Way 0 adds, 1 subtracts.
 // The affixes come as three lists; a flag is a byte, for want of a bool that C and Rust agree on.
-pub fn pursegable_block(
+#[unsafe(no_mangle)]
+pub extern "C" fn pursegable_block(
     body: u32,
     amount: u32,
     way: u32,

@@ -1,7 +1,6 @@
-// The library. pursegable_c exports each public function under its name here, with the same clauses, and is what C and Rust programs link;
-// c/pursegable.h says the same in C.
+// The static library: what C and Rust programs link. c/pursegable.h says the same in C.
 //
-// No public function has a `requires`. At an export a slice is a pointer and a length in elements; null or overlapping buffers are the caller's business.
+// No export has a `requires`. A slice is a pointer and a length in elements; null or overlapping buffers are the caller's business.
 // Here, in order: the report; layout, sheet and label over event records; the layout over the events' words.
 // asking.rt: why a group broke. building.rt: the constructors and the block layouts; constructors.rt: which constructor a number makes; counts.rt: the lent counts.
 
@@ -56,7 +55,8 @@ fn tell(r: Report, report: &mut [u32])
 }
 
 // Lays a table out at a width, with a step limit. The answer is returned, and is the report's first word.
-pub fn pursegable_layout(
+#[unsafe(no_mangle)]
+pub extern "C" fn pursegable_layout(
     table: &[u32],
     text: &[u8],
     width: u32,
@@ -79,7 +79,8 @@ pub fn pursegable_layout(
 }
 
 // The whole sheet, at the default width and step limit.
-pub fn pursegable_sheet(
+#[unsafe(no_mangle)]
+pub extern "C" fn pursegable_sheet(
     table: &[u32],
     text: &[u8],
     out: &mut [u8],
@@ -105,7 +106,8 @@ pub fn pursegable_sheet(
 }
 
 // The row label, at its own width and the default step limit.
-pub fn pursegable_label(
+#[unsafe(no_mangle)]
+pub extern "C" fn pursegable_label(
     table: &[u32],
     text: &[u8],
     out: &mut [u8],
@@ -131,7 +133,8 @@ pub fn pursegable_label(
 }
 
 // As pursegable_layout, with the events as words, `rules::EVENT_WORDS` to a record: nothing is copied.
-pub fn pursegable_layout_words(
+#[unsafe(no_mangle)]
+pub extern "C" fn pursegable_layout_words(
     table: &[u32],
     text: &[u8],
     width: u32,

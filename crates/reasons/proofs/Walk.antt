@@ -1,5 +1,5 @@
 -- The walk over what waits: it stays within a bound of the width, and reads on from the next waiting node.
---     part-is, room_of, filled             the summaries stand past what waits, which is as it was
+--     part-is, filled                      the summaries stand past what waits, which is as it was
 --     under                                the walk down a node comes through at most at the bound
 --     walk-asked                           what the walk down a node asks
 --     walk-nothing, walk-found, walk-on    from one waiting node to the next
@@ -14,6 +14,7 @@ use lib.ListN.{length, take, drop, get_or, length-drop, drop_of_length-le, get_o
 use lib.Seq.{take_all, drop_at, get_or-take, length-take-le}
 use lib.Dec.{leb}
 use borrow.Author.Tests.{leb-true}
+use Rattle.std.specs.Prelude.{Result, Ok, Err}
 use Rattle.table.specs.Unfold.{Tree, nil, append, group, flat_alt, nest, hardline, text, annotated, union, align, fail, tree}
 use Rattle.rules.specs.Layout.{Mode, flat, broken, mode_if}
 use Rattle.rules.specs.Why as why
@@ -25,8 +26,6 @@ use Rattle.waiting.specs.Area.{number_at}
 use Rattle.waiting.proofs.Laws.{node-top, from-nodes}
 use Rattle.summary.specs.Promise as summary
 use Rattle.summary.specs.Promise.{Leads, met_of}
-use Rattle.summary.specs.declared.Met.{Met as Walked}
-use Rattle.summary.specs.declared.Met.TheVariants.{Through, Found}
 use Rattle.summary.specs.declared.Reason.{Reason}
 use Rattle.summary.specs.declared.Reason.TheVariants.{NothingLeft}
 use Rattle.table.specs.declared.Column.{Column}
@@ -42,15 +41,6 @@ pub part-is : (w : List ℕ) → part w ≡ drop memo_from w
 part-is w = take_all (length w - memo_from) (drop memo_from w) (simp length-drop (omega arith))
 
 module _ {T w : List ℕ} {N : ℕ} (h : Lent T w N) where
-  pub room_of : summary.Room T (part w) N
-  room_of =
-      record {
-        valid = h.valid;
-        words = h.words;
-        small = h.small;
-        room = rw (part-is w) (simp length-drop (omega (arith, h.area, h.small)));
-      }
-
   -- what came back in its place
   pub filled : (ys : List ℕ) → length ys ≡ length (part w) → summary.Summarized T (part w) N ys
       → Filled T w N (take memo_from w ++ (ys ++ drop (length w - memo_from) (drop memo_from w)))
@@ -123,7 +113,7 @@ module _ {T w : List ℕ} {d c W N : ℕ} (h : Met T w d c W N) where
       }
 
   -- the walk down a node came through
-  through-small : (n : ℕ) (f : Bool) (end : Column) → Leads T n f c W (met_of (Through end)) → end.0 ≤ 65536
+  through-small : (n : ℕ) (f : Bool) (end : Column) → Leads T n f c W (met_of (Ok end)) → end.0 ≤ 65536
   through-small n f end g = subst (Under 65536) (sym (g [])) (under W 65536 h.width (tree T [] n) (mode_if f) c h.column)
 
   module _ {r : ℕ} (e : Nearest w d 0 r) where
@@ -160,24 +150,21 @@ pub record Walking (T w : List ℕ) (W N d₀ c₀ d c : ℕ) : Type 0 where
   pub met : Met T w d c W N
   pub same : (bytes : List ℕ) → first_after W (waiting (tree T bytes) (stack_of d w)) c ≡ first_after W (waiting (tree T bytes) (stack_of d₀ w)) c₀
 
-pub walk_start : {T w : List ℕ} {W N d c : ℕ} → Met T w d c W N → Walking T w W N d c d c
-walk_start h = record { met = h; same = λ bytes. refl }
-
 module _ {T w : List ℕ} {W N d₀ c₀ d c : ℕ} (h : Walking T w W N d₀ c₀ d c) {r : ℕ} (e : Nearest w d 0 r) where
   pub walk-nothing : r ≡ 0 → After T w d₀ c₀ W NothingLeft
   walk-nothing z bytes = nothing_waits h.met e z bytes ∙ h.same bytes
 
-  module _ (some : r ≡ 0 → ⊥) (n : ℕ) (at : n ≡ number_at w (r - 1)) (v : Walked) (g : Leads T n false c W (met_of v)) where
+  module _ (some : r ≡ 0 → ⊥) (n : ℕ) (at : n ≡ number_at w (r - 1)) (v : Result Column Reason) (g : Leads T n false c W (met_of v)) where
     leads : (bytes : List ℕ) → met_of v ≡ first_in W (tree T bytes (number_at w (r - 1))) broken c
     leads bytes = g bytes ∙ ap (λ n. first_in W (tree T bytes n) broken c) at
 
-    pub walk-found : (x : Reason) → v ≡ Found x → After T w d₀ c₀ W x
+    pub walk-found : (x : Reason) → v ≡ Err x → After T w d₀ c₀ W x
     walk-found x q bytes =
         ap (λ y. or_else y (λ c. first_after W (waiting (tree T bytes) (stack_of (r - 1) w)) c)) (ap met_of (sym q) ∙ leads bytes)
         ∙ sym (reads-next h.met e some bytes)
         ∙ h.same bytes
 
-    pub walk-on : (end : Column) → v ≡ Through end → Walking T w W N d₀ c₀ (r - 1) end.0
+    pub walk-on : (end : Column) → v ≡ Ok end → Walking T w W N d₀ c₀ (r - 1) end.0
     walk-on end q =
         let m = h.met in
         record {
@@ -198,12 +185,12 @@ module _ {T w : List ℕ} {W N d₀ c₀ d c : ℕ} (h : Walking T w W N d₀ c�
 
 -- ---- the group's child
 
-module _ {T w : List ℕ} {d n c W N : ℕ} (h : Asked T w d n c W N) (v : Walked) (g : Leads T n true c W (met_of v)) where
-  pub child-found : (x : Reason) → v ≡ Found x → Because T w d n c W x
+module _ {T w : List ℕ} {d n c W N : ℕ} (h : Asked T w d n c W N) (v : Result Column Reason) (g : Leads T n true c W (met_of v)) where
+  pub child-found : (x : Reason) → v ≡ Err x → Because T w d n c W x
   unfolding why.reason
   child-found x q bytes = ap (λ y. or_else y (λ c. first_after W (waiting (tree T bytes) (stack_of d w)) c)) (ap met_of (sym q) ∙ g bytes)
 
-  pub child-met : (end : Column) → v ≡ Through end → Met T w d end.0 W N
+  pub child-met : (end : Column) → v ≡ Ok end → Met T w d end.0 W N
   child-met end q =
       let m = h.met in
       record {
@@ -215,7 +202,7 @@ module _ {T w : List ℕ} {d n c W N : ℕ} (h : Asked T w d n c W N) (v : Walke
         width = m.width;
       }
 
-  pub child-through : (end : Column) → v ≡ Through end → (x : Reason) → After T w d end.0 W x → Because T w d n c W x
+  pub child-through : (end : Column) → v ≡ Ok end → (x : Reason) → After T w d end.0 W x → Because T w d n c W x
   unfolding why.reason
   child-through end q x f bytes =
       f bytes ∙ ap (λ y. or_else y (λ c. first_after W (waiting (tree T bytes) (stack_of d w)) c)) (ap met_of (sym q) ∙ g bytes)

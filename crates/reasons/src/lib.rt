@@ -7,9 +7,9 @@
 #![tactic(auto)]
 
 ghost use Rattle.std.specs.Prelude.{◌/◌, length};
-ghost use Rattle.reasons.specs.Promise.{Lent, Filled, Met as Meeting, Asked, After, Because};
+ghost use Rattle.reasons.specs.Promise.{Lent, Filled, Met, Asked, After, Because};
 
-use summary::{Met, Reason};
+use summary::Reason;
 use table::{Column, NodeNo};
 
 // Where the summaries start.
@@ -20,16 +20,14 @@ pub fn fill(table: &[u32], work: &mut [u32])
     requires { Lent table.now work.old (length table.now / 4) }
     ensures { Filled table.now work.old (length table.now / 4) work.new }
 {
-    let from = MEMO;
-    summary::summarize(table, &mut work[from..]);
+    summary::summarize(table, &mut work[MEMO..]);
 }
 
 // The waiting nodes in order, all read broken; nothing left ends flat.
 fn after(table: &[u32], work: &[u32], depth: usize, column: Column, width: u32) -> Reason
-    requires { Meeting table.now work.now depth column.0 width (length table.now / 4) }
+    requires { Met table.now work.now depth column.0 width (length table.now / 4) }
     ensures { After table.now work.now depth column.0 width result }
 {
-    let from = MEMO;
     let mut d = depth;
     let mut end = column;
     loop {
@@ -39,11 +37,9 @@ fn after(table: &[u32], work: &[u32], depth: usize, column: Column, width: u32) 
         }
         d = next - 1;
         let node = waiting::node_at(work, d);
-        match summary::first_reason(table, &work[from..], node, false, end, width) {
-            Met::Through(reached) => {
-                end = reached;
-            }
-            Met::Found(reason) => return reason,
+        match summary::first_reason(table, &work[MEMO..], node, false, end, width) {
+            Ok(reached) => end = reached,
+            Err(reason) => return reason,
         }
     }
 }
@@ -60,9 +56,8 @@ pub fn reason(
     requires { Asked table.now work.now depth child.0 column.0 width (length table.now / 4) }
     ensures { Because table.now work.now depth child.0 column.0 width result }
 {
-    let from = MEMO;
-    match summary::first_reason(table, &work[from..], child, true, column, width) {
-        Met::Through(end) => after(table, work, depth, end, width),
-        Met::Found(reason) => reason,
+    match summary::first_reason(table, &work[MEMO..], child, true, column, width) {
+        Ok(end) => after(table, work, depth, end, width),
+        Err(reason) => reason,
     }
 }

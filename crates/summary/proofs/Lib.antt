@@ -2,4 +2,3 @@
 pub mod Laws
 mod Arms
 mod Steps
-mod Fill

@@ -1,7 +1,6 @@
 -- What the functions promise: the summaries of all nodes in a lent run of words, and where the walk down one node leads.
 -- Assumes nothing.
-use Rattle.std.specs.Prelude.{◌≡◌, ℕ, ◌+◌, ◌-◌, ◌*◌, ◌≤◌, ◌<◌, Bool, true, false, List, length, get_or, eqb, leb}
-use Rattle.choice.specs.Pick.{pick}
+use Rattle.std.specs.Prelude.{◌≡◌, ℕ, ◌+◌, ◌*◌, ◌≤◌, ◌<◌, Bool, true, false, List, length, get_or, Result, Ok, Err}
 use Rattle.table.specs.Unfold.{tree}
 use Rattle.table.specs.Node.{node_of, node_at}
 use Rattle.table.specs.declared.Words.{Words}
@@ -9,11 +8,12 @@ use Rattle.table.specs.Sound.{Sound, AllSound}
 use Rattle.rules.specs.Why as why
 use Rattle.rules.specs.Layout.{mode_if}
 use Rattle.rules.specs.Why.{first_in}
-use Rattle.summary.specs.Summary.{summary, word_of}
+use Rattle.summary.specs.Summary.{Summary, no_text, texts, never, summary, word_of}
+use Rattle.summary.specs.declared.Passed.{Passed}
+use Rattle.summary.specs.declared.Passed.TheVariants.{NoText, Texts, Never}
 use Rattle.summary.specs.declared.Step.{Step}
-use Rattle.summary.specs.declared.Step.TheVariants.{Down, Ends}
-use Rattle.summary.specs.declared.Met.{Met}
-use Rattle.summary.specs.declared.Met.TheVariants.{Through, Found}
+use Rattle.summary.specs.declared.Step.TheVariants.{Down, Through}
+use Rattle.table.specs.declared.Column.{Column}
 use Rattle.summary.specs.declared.Reason.{Reason}
 use Rattle.summary.specs.declared.Reason.TheVariants.{AtFail, HardlineInside, TextPast, NothingLeft, HardlineAfter}
 
@@ -26,9 +26,17 @@ abbrev pub place_of : ℕ → Bool → ℕ
 place_of n false = n * 2
 place_of n true = n * 2 + 1
 
--- two summaries, one after the other, in words
-abbrev pub join_words : ℕ → ℕ → ℕ
-join_words a b = pick (eqb a 0) b (pick (eqb b 0) a (pick (leb (a + b) 65538) (a + b - 1) 65538))
+-- the code's summary as the definition's
+abbrev pub passed_of : Passed → Summary
+passed_of NoText = no_text
+passed_of (Texts k) = texts k
+passed_of Never = never
+
+-- Texts of no more columns than a width can have
+abbrev pub Small : Summary → Type 0
+Small no_text = Unit {0}
+Small (texts k) = k ≤ 65536
+Small never = Unit {0}
 
 -- a valid table of N nodes, and room for their summaries
 pub record Room (table memo : List ℕ) (N : ℕ) : Type 0 where
@@ -40,6 +48,10 @@ pub record Room (table memo : List ℕ) (N : ℕ) : Type 0 where
 -- the word m is the summary of node n read flat or not, whatever the text bytes are
 abbrev pub Says : List ℕ → ℕ → Bool → ℕ → Type 0
 Says table n f m = (bytes : List ℕ) → m ≡ word_of (summary (tree table bytes n) (mode_if f))
+
+-- the same of the summary itself
+pub record Sums (table : List ℕ) (n : ℕ) (f : Bool) (s : Summary) : Type 0 where
+  pub is : (bytes : List ℕ) → s ≡ summary (tree table bytes n) (mode_if f)
 
 -- the memo has the summaries of the nodes 0 to n - 1
 abbrev pub Summed : List ℕ → List ℕ → ℕ → Type 0
@@ -67,9 +79,9 @@ reason_of (TextPast n c) = why.text_past n.0 c.0
 reason_of NothingLeft = why.nothing_left
 reason_of (HardlineAfter n) = why.hardline_after n.0
 
-abbrev pub met_of : Met → why.Met
-met_of (Through c) = why.through c.0
-met_of (Found r) = why.found (reason_of r)
+abbrev pub met_of : Result Column Reason → why.Met
+met_of (Ok c) = why.through c.0
+met_of (Err r) = why.found (reason_of r)
 
 -- one of N nodes with their summaries, a column and a width
 pub record Asked (table memo : List ℕ) (n c W N : ℕ) : Type 0 where
@@ -93,6 +105,7 @@ pub record Goes (table : List ℕ) (n : ℕ) (f : Bool) (c W x end : ℕ) : Type
   pub same : (bytes : List ℕ) → first_in W (tree table bytes x) (mode_if f) end ≡ first_in W (tree table bytes n) (mode_if f) c
 
 -- one step of the way down
-abbrev pub Stepped : List ℕ → ℕ → Bool → ℕ → ℕ → Step → Type 0
-Stepped table n f c W (Down x end) = Goes table n f c W x.0 end.0
-Stepped table n f c W (Ends r) = Leads table n f c W (met_of r)
+abbrev pub Stepped : List ℕ → ℕ → Bool → ℕ → ℕ → Result Step Reason → Type 0
+Stepped table n f c W (Ok (Down x end)) = Goes table n f c W x.0 end.0
+Stepped table n f c W (Ok (Through end)) = Leads table n f c W (why.through end.0)
+Stepped table n f c W (Err r) = Leads table n f c W (why.found (reason_of r))

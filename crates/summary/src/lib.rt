@@ -2,17 +2,24 @@
 // them the first node below a given one that breaks a group or ends its fit test, found on one way down. Both take time that grows with the
 // nodes of the table: a node that is shared is never read twice on the way.
 //
-// A summary is one word: 0 where no Text is passed; one more than the columns of the Texts passed; NEVER where the walk doesn't come through.
+// A summary is a `Passed`; the caller lends words for them, so each stands there as a word, by `to_word` and `from_word`.
 // Nothing here is an entry point of the library: each function says what it asks of its caller.
 
 #![tactic(auto)]
 
 ghost use Rattle.std.specs.Prelude.{◌≡◌, ◌+◌, ◌*◌, ◌/◌, ◌≤◌, ◌<◌, length, get_or};
-ghost use Rattle.summary.specs.Promise.{place_of, join_words, Room, Says, Reads, Below, Summarized, Asked, Leads, Stepped, met_of};
+ghost use Rattle.summary.specs.Summary.{join, word_of, read_word};
+ghost use Rattle.summary.specs.Promise.{place_of, Room, Small, Sums, Reads, Below, Summarized, Asked, Leads, Stepped, passed_of, met_of};
 
-use table::{Column, NodeNo, Words};
+use table::{
+    ALIGN, ANNOTATED, APPEND, Column, FLAT_ALT, GROUP, HARDLINE, NEST, NIL, NodeNo, TEXT, UNION,
+    Words,
+};
 
-// A Fail or a Hardline stops the walk, or its Texts have more columns than any width.
+// The most columns of a width.
+const WIDEST: u32 = 65536;
+
+// The word of a walk that never comes through.
 const NEVER: u32 = 65538;
 
 // Why a group goes broken or flat: the first node that breaks its fit test, with the column reached there, for a Text at its end; or what ends it
@@ -26,47 +33,70 @@ pub enum Reason {
     HardlineAfter(NodeNo),
 }
 
-// Where the walk down a node leads: through it, to a column; or to a reason.
+// What a fit test passes on its way through a node: no Text; Texts of so many columns together; or a Fail, a Hardline or Texts of more columns
+// than any width, at which it never comes through.
 #[derive(Clone, Copy)]
-pub enum Met {
-    Through(Column),
-    Found(Reason),
+enum Passed {
+    NoText,
+    Texts(u32),
+    Never,
 }
 
-// One step of the way down: to a node below, from a column; or to where the walk leads.
+// One step of the way down: to a node below, from a column; or through, to a column.
 #[derive(Clone, Copy)]
 enum Step {
     Down(NodeNo, Column),
-    Ends(Met),
+    Through(Column),
 }
 
 // ---- the summaries
 
-// A node's summary, broken or flat.
-fn summary_at(memo: &[u32], node: u32, flat: bool) -> u32
-    requires { (node < 1024) × (node * 2 + 2 ≤ length memo.now) }
-    ensures { result ≡ get_or memo.now (place_of node flat) 0 }
-{
-    let at = (node as usize) * 2;
-    if flat { memo[at + 1] } else { memo[at] }
+impl Passed {
+    // Its word: 0; one more than the columns; NEVER.
+    fn to_word(self) -> u32
+        requires { Small (passed_of self) }
+        ensures { result ≡ word_of (passed_of self) }
+    {
+        match self {
+            Passed::NoText => 0,
+            Passed::Texts(columns) => columns + 1,
+            Passed::Never => NEVER,
+        }
+    }
+
+    fn from_word(word: u32) -> Passed
+        ensures { passed_of result ≡ read_word word }
+    {
+        if word == 0 {
+            Passed::NoText
+        } else if word < NEVER {
+            Passed::Texts(word - 1)
+        } else {
+            Passed::Never
+        }
+    }
+
+    // One part after another.
+    fn join(self, next: Passed) -> Passed
+        requires { Small (passed_of self) × Small (passed_of next) }
+        ensures { passed_of result ≡ join (passed_of self) (passed_of next) }
+    {
+        match (self, next) {
+            (Passed::NoText, _) => next,
+            (Passed::Texts(_), Passed::NoText) => self,
+            (Passed::Texts(a), Passed::Texts(b)) if a + b <= WIDEST => Passed::Texts(a + b),
+            _ => Passed::Never,
+        }
+    }
 }
 
-// One part after another.
-fn joined(first: u32, second: u32) -> u32
-    requires { (first ≤ 65538) × (second ≤ 65538) }
-    ensures { result ≡ join_words first second }
+// A node's summary, broken or flat.
+fn summary_at(memo: &[u32], node: u32, flat: bool) -> Passed
+    requires { (node < 1024) × (node * 2 + 2 ≤ length memo.now) }
+    ensures { passed_of result ≡ read_word (get_or memo.now (place_of node flat) 0) }
 {
-    if first == 0 {
-        return second;
-    }
-    if second == 0 {
-        return first;
-    }
-    if first + second <= NEVER {
-        first + second - 1
-    } else {
-        NEVER
-    }
+    let at = (node as usize) * 2;
+    Passed::from_word(if flat { memo[at + 1] } else { memo[at] })
 }
 
 // A node's words.
@@ -84,40 +114,35 @@ fn words_at(table: &[u32], node: u32) -> Words
 }
 
 // The summary of a node, by those of the nodes below it.
-fn node_summary(table: &[u32], memo: &[u32], node: u32, flat: bool) -> u32
+fn node_summary(table: &[u32], memo: &[u32], node: u32, flat: bool) -> Passed
     requires { Below table.now memo.now node }
-    ensures { Says table.now node flat result }
+    ensures { Sums table.now node flat (passed_of result) }
 {
     let w = words_at(table, node);
-    let kind = w.kind;
-    match kind {
-        0 => 0,
-        1 => joined(summary_at(memo, w.a, flat), summary_at(memo, w.b, flat)),
-        2 | 4 | 7 | 9 => summary_at(memo, w.a, flat),
-        3 => if flat {
-            summary_at(memo, w.b, flat)
-        } else {
-            summary_at(memo, w.a, flat)
-        },
-        6 => w.c + 1,
-        8 => summary_at(memo, w.b, flat),
-        _ => NEVER,
+    match w.kind {
+        NIL => Passed::NoText,
+        APPEND => summary_at(memo, w.a, flat).join(summary_at(memo, w.b, flat)),
+        GROUP | NEST | ANNOTATED | ALIGN => summary_at(memo, w.a, flat),
+        FLAT_ALT if flat => summary_at(memo, w.b, flat),
+        FLAT_ALT => summary_at(memo, w.a, flat),
+        TEXT => Passed::Texts(w.c),
+        UNION => summary_at(memo, w.b, flat),
+        _ => Passed::Never,
     }
 }
 
 // The summaries of all nodes, from node 0 up, two words each: broken, then flat.
+#[tactic(auto, using(crate::proofs::Arms::sums_small))]
 pub fn summarize(table: &[u32], memo: &mut [u32])
     requires { Room table.now memo.old (length table.now / 4) }
     ensures { Summarized table.now memo.old (length table.now / 4) memo.new }
 {
     let nodes = table.len() / 4;
-    let mut n = 0;
-    while n < nodes {
+    for n in 0..nodes {
         let broken = node_summary(table, memo, n as u32, false);
         let flat = node_summary(table, memo, n as u32, true);
-        memo[n * 2] = broken;
-        memo[n * 2 + 1] = flat;
-        n += 1;
+        memo[n * 2] = broken.to_word();
+        memo[n * 2 + 1] = flat.to_word();
     }
 }
 
@@ -131,51 +156,39 @@ fn step_down(
     flat: bool,
     column: Column,
     width: u32,
-) -> Step
+) -> Result<Step, Reason>
     requires { Asked table.now memo.now node.0 column.0 width (length table.now / 4) }
     ensures { Stepped table.now node.0 flat column.0 width result }
 {
     let w = words_at(table, node.0);
-    let kind = w.kind;
-    match kind {
-        0 => Step::Ends(Met::Through(column)),
-        1 => {
-            let first = summary_at(memo, w.a, flat);
-            if first == 0 {
-                return Step::Down(NodeNo(w.b), column);
+    match w.kind {
+        NIL => Ok(Step::Through(column)),
+        APPEND => match summary_at(memo, w.a, flat) {
+            Passed::NoText => Ok(Step::Down(NodeNo(w.b), column)),
+            Passed::Texts(columns) if column.0 + columns <= width => {
+                Ok(Step::Down(NodeNo(w.b), Column(column.0 + columns)))
             }
-            let end = column.0 + (first - 1);
-            if end <= width {
-                Step::Down(NodeNo(w.b), Column(end))
+            Passed::Texts(_) | Passed::Never => Ok(Step::Down(NodeNo(w.a), column)),
+        },
+        GROUP | NEST | ANNOTATED | ALIGN => Ok(Step::Down(NodeNo(w.a), column)),
+        FLAT_ALT if flat => Ok(Step::Down(NodeNo(w.b), column)),
+        FLAT_ALT => Ok(Step::Down(NodeNo(w.a), column)),
+        HARDLINE if flat => Err(Reason::HardlineInside(node, column)),
+        HARDLINE => Err(Reason::HardlineAfter(node)),
+        TEXT => {
+            let end = Column(column.0 + w.c);
+            if end.0 <= width {
+                Ok(Step::Through(end))
             } else {
-                Step::Down(NodeNo(w.a), column)
+                Err(Reason::TextPast(node, end))
             }
         }
-        2 | 4 | 7 | 9 => Step::Down(NodeNo(w.a), column),
-        3 => if flat {
-            Step::Down(NodeNo(w.b), column)
-        } else {
-            Step::Down(NodeNo(w.a), column)
-        },
-        5 => if flat {
-            Step::Ends(Met::Found(Reason::HardlineInside(node, column)))
-        } else {
-            Step::Ends(Met::Found(Reason::HardlineAfter(node)))
-        },
-        6 => {
-            let end = column.0 + w.c;
-            if end <= width {
-                Step::Ends(Met::Through(Column(end)))
-            } else {
-                Step::Ends(Met::Found(Reason::TextPast(node, Column(end))))
-            }
-        }
-        8 => Step::Down(NodeNo(w.b), column),
-        _ => Step::Ends(Met::Found(Reason::AtFail(node, column))),
+        UNION => Ok(Step::Down(NodeNo(w.b), column)),
+        _ => Err(Reason::AtFail(node, column)),
     }
 }
 
-// Where the walk down a node leads, read flat or broken from a column.
+// Where the walk down a node leads, read flat or broken from a column: through it, to a column; or to a reason.
 pub fn first_reason(
     table: &[u32],
     memo: &[u32],
@@ -183,19 +196,19 @@ pub fn first_reason(
     flat: bool,
     column: Column,
     width: u32,
-) -> Met
+) -> Result<Column, Reason>
     requires { Asked table.now memo.now node.0 column.0 width (length table.now / 4) }
     ensures { Leads table.now node.0 flat column.0 width (met_of result) }
 {
     let mut down = node;
     let mut col = column;
     loop {
-        match step_down(table, memo, down, flat, col, width) {
+        match step_down(table, memo, down, flat, col, width)? {
             Step::Down(next, end) => {
                 down = next;
                 col = end;
             }
-            Step::Ends(met) => return met,
+            Step::Through(end) => return Ok(end),
         }
     }
 }

@@ -1,12 +1,5 @@
-use native.Mathlib.Omega.{arith}
-use Rattle.reasons.proofs.Walk.{walk_start, walk-nothing, walk-found, walk-on, walk-asked, next_small, part-is}
+use Rattle.reasons.proofs.Walk.{walk-nothing, walk-found, walk-on, walk-asked, next_small, part-is}
 use Rattle.reasons.proofs.after.Goals as goal
-
-pub loop-end-init : goal.loop-end-init
-loop-end-init c = walk_start c.requires
-
-pub nearest-next-requires : goal.nearest-next-requires
-nearest-next-requires c = (c.loop-end.invariant.met.depth, c.loop-end.invariant.met.lent.area, omega arith)
 
 pub returns-then-next-eq0 : goal.returns-then-next-eq0
 returns-then-next-eq0 c = walk-nothing c.loop-end.invariant c.nearest-next.ensures c.if-next-eq0.true
@@ -18,8 +11,8 @@ first_reason-requires c =
 
 pub loop-end-preserved : goal.loop-end-preserved
 loop-end-preserved c =
-    walk-on c.loop-end.invariant c.nearest-next.ensures c.if-next-eq0.false _ c.node_at-node.ensures _ c.first_reason.ensures _ c.in-Through.is
+    walk-on c.loop-end.invariant c.nearest-next.ensures c.if-next-eq0.false _ c.node_at-node.ensures _ c.first_reason.ensures _ c.in-Ok.is
 
-pub returns-in-Found : goal.returns-in-Found
-returns-in-Found c =
-    walk-found c.loop-end.invariant c.nearest-next.ensures c.if-next-eq0.false _ c.node_at-node.ensures _ c.first_reason.ensures _ c.in-Found.is
+pub returns-in-Err : goal.returns-in-Err
+returns-in-Err c =
+    walk-found c.loop-end.invariant c.nearest-next.ensures c.if-next-eq0.false _ c.node_at-node.ensures _ c.first_reason.ensures _ c.in-Err.is
