@@ -1,27 +1,12 @@
 // The builder's counts as the caller's words: read before a constructor, put back after it.
 ghost use Rattle.std.specs.Prelude.{◌≡◌, ◌≤◌, length, get_or};
 ghost use Rattle.build.specs.Draft.{counts_of};
-ghost use Rattle.build.specs.Outcome.{number};
 ghost use Rattle.pursegable.specs.Building.{counts_words, answer_of, counts_after};
 
-use build::{Counts, Made, Why};
+use build::{Counts, Made};
 
 // The words that the builder's counts take.
 pub const COUNTS_WORDS: usize = 3;
-
-// Document 01's number for a refusal.
-fn number(why: Why) -> u32
-    ensures { result ≡ number why }
-{
-    match why {
-        Why::Sizes => 1,
-        Why::Operand => 11,
-        Why::Amount => 3,
-        Why::Text => 5,
-        Why::Bytes => 12,
-        Why::Nodes => 10,
-    }
-}
 
 pub fn counts_of(counts: &[u32]) -> Counts
     requires { counts_words ≤ length counts.now }
@@ -45,6 +30,6 @@ pub fn settle(made: Made, counts: &mut [u32]) -> u32
             counts[2] = n.0;
             0
         }
-        Err(why) => number(why),
+        Err(why) => u32::from(why),
     }
 }

@@ -16,7 +16,7 @@ fn run_all<P: Print>(input: &[u8], rt: &P) {
         if input.len() <= end {
             return;
         }
-        strip::run(&input[at..end], &mut io::writer(rt), &mut io::writer(rt));
+        let _told = strip::run(&input[at..end], &mut io::writer(rt), &mut io::writer(rt));
         at = end + 1;
         if at < input.len() {
             at += 1;

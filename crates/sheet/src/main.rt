@@ -31,5 +31,5 @@ fn main(rt: HostRuntime) {
         return;
     }
     let n = n as usize;
-    strip::run(front(&space, n), &mut rt.stdout(), &mut tell);
+    let _told = strip::run(front(&space, n), &mut rt.stdout(), &mut tell);
 }

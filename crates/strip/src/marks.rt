@@ -7,22 +7,17 @@ pub fn marked(events: &[u32], at: usize) -> bool
     ensures { result ≡ marked_at events.now at }
 {
     let mut open: usize = 0;
-    let mut i = 0;
-    while i + 2 < events.len() {
-        let offset = events[i] as usize;
-        if at < offset {
+    let mut rest = events;
+    while let [offset, mark, _, others @ ..] = rest {
+        if at < *offset as usize {
             return 0 < open;
         }
-        let mark = events[i + 1];
-        i += 3;
-        if mark == 1 {
+        if *mark == 1 {
             open += 1;
-            continue;
+        } else {
+            open = open.saturating_sub(1);
         }
-        if 0 < open {
-            open -= 1;
-            continue;
-        }
+        rest = others;
     }
     0 < open
 }

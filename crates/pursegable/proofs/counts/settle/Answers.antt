@@ -6,8 +6,8 @@ use Rattle.pursegable.specs.Building.{answer_of, counts_after}
 use Rattle.pursegable.proofs.Making.{counts-set}
 use Rattle.pursegable.proofs.counts.settle.Goals as goal
 
-pub returns-in-Node : goal.returns-in-Node
-returns-in-Node c =
+pub returns-in-Ok : goal.returns-in-Ok
+returns-in-Ok c =
     let counts = c.args.counts.now in
-    let node = c.in-Node.is in
+    let node = c.in-Ok.is in
     (sym (ap answer_of node), counts-set counts _ _ _ c.requires ∙ sym (ap (λ (m : Made). counts_after m counts) node))

@@ -1,47 +1,26 @@
-use native.Mathlib.Omega.{arith}
-use mathlib.Core.Path.{◌≡◌, refl, sym, ap, ◌∙◌}
-use Prim.Native.Nat.{ℕ, ◌+◌, ◌-◌}
-use lib.ListN.{drop}
-use Rattle.strip.specs.Marks.{open_at, marked_at}
-use Rattle.strip.proofs.Opening.{past, opens, closes, no-mark}
+use Rattle.std.proofs.Common.{sym, ap, ◌∙◌}
 use lib.Dec.{ltb}
+use Rattle.strip.specs.Marks.{marked_at}
+use Rattle.buffer.proofs.Reading.{rest-is}
+use Rattle.strip.proofs.Opening.{past, opens, closes, no-mark}
 use Rattle.strip.proofs.marks.marked.Goals as goal
-
-pub loop-i-init : goal.loop-i-init
-loop-i-init c = (omega arith, omega arith, refl)
-
-pub overflow_cast-offset : goal.overflow_cast-offset
-overflow_cast-offset c = omega (arith, c.shared_slice_known-1.given c.loop-i.i)
 
 pub returns-then-at-offset : goal.returns-then-at-offset
 unfolding marked_at
 returns-then-at-offset c =
-    let L = c.loop-i in
-    let events = c.args.events.now in
-    ap (ltb 0) (sym (past events L.i L.«open» c.args.at (omega arith) c.if-at-offset.true) ∙ L.invariant.2)
+    let L = c.loop-rest in
+    ap (ltb 0) (sym (past L.«open» c.args.at L.rest.now c.in-len3-up.len_at_least c.if-at-offset.true) ∙ L.invariant.1)
 
-pub loop-i-preserved-then-mark-eq1 : goal.loop-i-preserved-then-mark-eq1
-loop-i-preserved-then-mark-eq1 c =
-    let L = c.loop-i in
-    let events = c.args.events.now in
-    (omega arith, omega arith, opens events L.i L.«open» c.args.at (omega arith) (omega arith) c.if-mark-eq1.true ∙ L.invariant.2)
+pub loop-rest-preserved-then-mark-eq1 : goal.loop-rest-preserved-then-mark-eq1
+loop-rest-preserved-then-mark-eq1 c =
+    opens c.args.events.now c.loop-rest.rest.now _ c.loop-rest.«open» c.args.at c.in-len3-up.len_at_least c.if-at-offset.false (rest-is c.loop-rest.rest.now 3) c.loop-rest.invariant c.if-mark-eq1.true
 
-pub loop-i-preserved-then-open-gt0 : goal.loop-i-preserved-then-open-gt0
-loop-i-preserved-then-open-gt0 c =
-    let L = c.loop-i in
-    let events = c.args.events.now in
-    (omega arith, omega arith, closes events L.i L.«open» c.args.at (omega arith) (omega arith) c.if-mark-eq1.false ∙ L.invariant.2)
-
-pub loop-i-preserved : goal.loop-i-preserved
-loop-i-preserved c =
-    let L = c.loop-i in
-    let events = c.args.events.now in
-    let none : L.«open» ≡ L.«open» - 1 = omega arith in
-    (omega arith, omega arith, ap (λ (n : ℕ). open_at n (drop (L.i + 3) events) c.args.at) none ∙ closes events L.i L.«open» c.args.at (omega arith) (omega arith) c.if-mark-eq1.false ∙ L.invariant.2)
+pub loop-rest-preserved : goal.loop-rest-preserved
+loop-rest-preserved c =
+    closes c.args.events.now c.loop-rest.rest.now _ c.loop-rest.«open» c.args.at c.in-len3-up.len_at_least c.if-at-offset.false (rest-is c.loop-rest.rest.now 3) c.loop-rest.invariant c.if-mark-eq1.false c.saturating_sub-open.result c.saturating_sub-open.ensures
 
 pub returns : goal.returns
 unfolding marked_at
 returns c =
-    let L = c.loop-i in
-    let events = c.args.events.now in
-    ap (ltb 0) (sym (no-mark L.«open» c.args.at events L.i (omega arith)) ∙ L.invariant.2)
+    let L = c.loop-rest in
+    ap (ltb 0) (sym (no-mark L.«open» c.args.at L.rest.now c.in_default.len_below) ∙ L.invariant.1)

@@ -1,12 +1,10 @@
 -- `strip::marks::marked` meets its contract: the marks open after what is left of the events are those after all of them. Assumes nothing.
-use mathlib.Core.Path.{◌≡◌}
-use Prim.Native.Nat.{◌-◌, ◌≤◌}
-use lib.ListN.{length, drop}
-use Rattle.strip.specs.Marks.{open_at}
+use Rattle.std.proofs.Common.{length}
+use Rattle.strip.proofs.Opening.{Left}
 use Rattle.strip.proofs.marks.marked.Given as goal
 
-abbrev pub invariant-loop-i : goal.invariant-loop-i
-invariant-loop-i l = (l.i ≤ length l.events) × (l.open ≤ l.i) × (open_at l.open (drop l.i l.events) l.at ≡ open_at 0 l.events l.at)
+abbrev pub invariant-loop-rest : goal.invariant-loop-rest
+invariant-loop-rest l = Left l.events l.at l.open l.rest
 
-abbrev pub decreases-loop-i : goal.decreases-loop-i
-decreases-loop-i l = length l.events - l.i
+abbrev pub decreases-loop-rest : goal.decreases-loop-rest
+decreases-loop-rest l = length l.rest
