@@ -4,6 +4,7 @@ pub mod Room
 pub mod Stand
 mod Handed
 mod Counting
+mod Stores
 mod Words
 mod Choices
 mod Stays
