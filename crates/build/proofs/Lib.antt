@@ -4,6 +4,7 @@ pub mod Grow
 pub mod Room
 pub mod Stand
 mod Counting
+mod Stores
 mod Words
 mod Choices
 mod Stays

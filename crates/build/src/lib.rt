@@ -1,6 +1,7 @@
 // The constructors: each adds nodes to the lent table and bytes to the lent text, or refuses and leaves both as they were.
 // No public method has a `requires`. Each says its whole outcome by a definition of specs/Constructors.antt, so one outcome is possible.
-// Here: what is asked before anything is added, reading the counted nodes, and the parts that ask for a whole. node.rt: one node; composed.rt: several; lists.rt: lists of nodes.
+// Here: what is asked before anything is added, reading the counted nodes, and the parts that ask for a whole.
+// node.rt: one node; composed.rt: several; lists.rt: lists of nodes.
 
 #![tactic(auto)]
 
@@ -110,13 +111,17 @@ pub fn nest_right(amount: Indent, way: u32) -> bool
 }
 
 // Puts the words where node n stands.
+// kept: four stores, for speed. 16 million constructors took 0.23 s so, and 0.39 s by `copy_from_slice` of the four words.
 fn put(table: &mut [u32], n: usize, words: Words)
     requires { n * 4 + 3 < length table.old }
     ensures { table.new
         ≡ over (take (n * 4) table.old ++ (words.kind ∷ words.a ∷ words.b ∷ words.c ∷ [])) table.old }
 {
     let at = n * 4;
-    table[at..at + 4].copy_from_slice(&[words.kind, words.a, words.b, words.c]);
+    table[at] = words.kind;
+    table[at + 1] = words.a;
+    table[at + 2] = words.b;
+    table[at + 3] = words.c;
 }
 
 impl Counts {
