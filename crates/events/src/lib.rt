@@ -64,15 +64,7 @@ pub fn push(events: &mut [Event], at: usize, e: Event)
 pub fn clear(events: &mut [Event])
     ensures { events.new ≡ replicate (length events.old) none }
 {
-    let mut i = 0;
-    while i < events.len() {
-        events[i] = Event {
-            offset: 0,
-            mark: 0,
-            label: 0,
-        };
-        i += 1;
-    }
+    events.fill(none());
 }
 
 // Writes every record: the first `used` from the words, zeros past them.
