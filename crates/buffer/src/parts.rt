@@ -28,9 +28,7 @@ pub fn columns(s: &[u8]) -> usize
     let mut count = 0;
     // kept: `filter` and `count` take twice the time (658 ns a thousand bytes, 332 so)
     for b in s {
-        if *b < 128 || 191 < *b {
-            count += 1;
-        }
+        count += usize::from((*b < 128) | (191 < *b));
     }
     count
 }

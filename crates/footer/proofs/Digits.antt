@@ -1,45 +1,16 @@
--- The laws of a number's digits.
---     digit-.., no-digits      from the last to the first
+-- The room that a number's digits take.
 --     number_fits              64 bytes have room for a sentence with a number in it
 -- Assumes nothing.
-use Prim.Native.Nat.{ℕ, zero, suc, ◌+◌, ◌-◌, ◌/◌, ◌%◌, ◌≤◌, ◌<◌}
+use Prim.Native.Nat.{ℕ, zero, suc, ◌+◌, ◌/◌, ◌%◌, ◌≤◌}
 use native.Mathlib.Omega.{arith}
-use mathlib.Core.Path.{◌≡◌, refl, ap, ap₂, ◌∙◌}
+use mathlib.Core.Path.{◌≡◌}
 use mathlib.Core.Bool.{Bool, true, false}
 use mathlib.Core.List.{List, [], ◌∷◌, ◌++◌}
-use lib.ListN.{length, take, drop, set, length-append, length-set}
-use lib.Seq.{take_all, drop-cons, drop-set-lt, get_or-set_same}
+use lib.ListN.{length, take, length-append}
+use lib.Seq.{take_all}
 use lib.Dec.{eqb}
-use borrow.Author.Tests.{eq-eqb, ne_eqb}
 use Rattle.choice.specs.Pick.{pick}
-use Rattle.footer.specs.Digits.{digits_on, digits}
-
--- a digit stored before those that stand
-pub digit-here : (out : List ℕ) (at v : ℕ) → 0 < at → at ≤ length out → drop (at - 1) (set out (at - 1) v) ≡ v ∷ drop at out
-digit-here out at v some h =
-    let k = at - 1 in
-    let next : suc k ≡ at = omega arith in
-    drop-cons (set out k v) k 0 (simp length-set (omega arith))
-    ∙ ap₂ (λ (a : ℕ) (l : List ℕ). a ∷ l) (get_or-set_same out k v 0 (omega arith)) (drop-set-lt (suc k) out k v (omega arith) ∙ ap (λ (n : ℕ). drop n out) next)
-
-pub no-digits : (room n : ℕ) (behind : List ℕ) → room ≤ 0 → behind ≡ digits_on room n behind
-unfolding digits_on
-no-digits zero n behind h = refl
-no-digits (suc room) n behind h = absurd (omega arith)
-
-pub digit_last : (room n : ℕ) (behind : List ℕ) → 0 < room → n / 10 ≡ 0 → digits_on room n behind ≡ (48 + n % 10) ∷ behind
-unfolding digits_on
-digit_last zero n behind h e = absurd (omega arith)
-digit_last (suc room) n behind h e = rw (eq-eqb (n / 10) 0 e)
-
-pub digit-more : (room n : ℕ) (behind : List ℕ) → 0 < room → (n / 10 ≡ 0 → ⊥) → digits_on room n behind ≡ digits_on (room - 1) (n / 10) ((48 + n % 10) ∷ behind)
-unfolding digits_on
-digit-more zero n behind h e = absurd (omega arith)
-digit-more (suc room) n behind h e =
-    let less : suc room - 1 ≡ room = omega arith in
-    rw (less, ne_eqb (n / 10) 0 e)
-
--- ---- the room it takes
+use Rattle.append.specs.Decimal.{digits_on, decimal}
 
 few-digits : (room n : ℕ) (behind : List ℕ) → length (digits_on room n behind) ≤ room + length behind
 unfolding digits_on
@@ -50,5 +21,5 @@ few-digits (suc room) n behind = go (eqb (n / 10) 0) (few-digits room (n / 10) (
     go true h = omega arith
     go false h = omega arith
 
-pub number_fits : (n : ℕ) (a b : List ℕ) → length a + length b ≤ 44 → take 64 (a ++ digits n ++ b) ≡ a ++ digits n ++ b
-number_fits n a b h = take_all 64 (a ++ digits n ++ b) (simp length-append (omega (arith, few-digits 20 n [])))
+pub number_fits : (n : ℕ) (a b : List ℕ) → length a + length b ≤ 44 → take 64 (a ++ decimal n ++ b) ≡ a ++ decimal n ++ b
+number_fits n a b h = take_all 64 (a ++ decimal n ++ b) (simp length-append (omega (arith, few-digits 20 n [])))

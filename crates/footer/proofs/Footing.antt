@@ -28,7 +28,7 @@ use Rattle.std.specs.Prelude.{Option, None}
 use Rattle.results.specs.declared.tolerance.Out.{Out}
 use Rattle.buffer.proofs.Reading.{done}
 use Rattle.buffer.specs.Placing.{Placed}
-use Rattle.footer.specs.Digits.{digits}
+use Rattle.append.specs.Decimal.{decimal}
 use Rattle.words.specs.Documents.{leaf_doc}
 use Rattle.words.specs.Build.{Is, Gives}
 use Rattle.footer.specs.Documents.{one_text, all_text, within_text, within_doc, comma_doc, headed_doc, told_doc, footer_doc}
@@ -39,9 +39,9 @@ use Rattle.footer.proofs.Digits.{number_fits}
 -- ---- all within tolerance
 
 -- three parts put into a row of blanks, a number's digits in the middle
-pub said_of-all : (n : ℕ) (a b : List ℕ) {part : List ℕ} → part ≡ digits n
+pub said_of-all : (n : ℕ) (a b : List ℕ) {part : List ℕ} → part ≡ decimal n
     → {o₁ o₂ o₃ : List ℕ} {r₁ r₂ r₃ : ℕ} → Placed (replicate 64 32) 0 a o₁ r₁ → Placed o₁ r₁ part o₂ r₂ → Placed o₂ r₂ b o₃ r₃
-    → length a + length b ≤ 44 → take r₃ o₃ ≡ a ++ digits n ++ b
+    → length a + length b ≤ 44 → take r₃ o₃ ≡ a ++ decimal n ++ b
 said_of-all n a b {part} is {o₁} {o₂} {o₃} {r₁} {r₂} {r₃} p q z h =
     let blank : List ℕ = replicate 64 32 in
     let l = placed-length p (omega arith) in
@@ -55,7 +55,7 @@ module _ (rows : ℕ) where
   unfolding within_doc
   within_one e = rw (eq-eqb rows 1 e)
 
-  pub within_all : (rows ≡ 1 → ⊥) → leaf_doc (all_text ++ digits rows ++ within_text) ≡ within_doc rows
+  pub within_all : (rows ≡ 1 → ⊥) → leaf_doc (all_text ++ decimal rows ++ within_text) ≡ within_doc rows
   unfolding within_doc
   within_all e = rw (ne_eqb rows 1 e)
 

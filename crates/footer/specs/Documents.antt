@@ -7,7 +7,7 @@ use Rattle.block.specs.Documents.{block_doc}
 use Rattle.results.specs.Standing.{row_count, out_notes}
 use Rattle.words.specs.Widths.{below}
 use Rattle.words.specs.Documents.{leaf_doc}
-use Rattle.footer.specs.Digits.{digits}
+use Rattle.append.specs.Decimal.{decimal}
 
 -- "The pallet is within tolerance"
 abbrev pub one_text : List ℕ
@@ -27,7 +27,7 @@ out_text = 79 ∷ 117 ∷ 116 ∷ 32 ∷ 111 ∷ 102 ∷ 32 ∷ 116 ∷ 111 ∷ 
 
 -- that all of so many rows are within tolerance
 unfoldable pub within_doc : ℕ → Doc
-within_doc rows = pick (eqb rows 1) (leaf_doc one_text) (leaf_doc (all_text ++ digits rows ++ within_text))
+within_doc rows = pick (eqb rows 1) (leaf_doc one_text) (leaf_doc (all_text ++ decimal rows ++ within_text))
 
 -- a comma and a place to break
 abbrev pub comma_doc : Doc

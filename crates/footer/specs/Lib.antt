@@ -1,3 +1,2 @@
--- What the footer is: a number's digits, and its document.
-pub mod Digits
+-- What the footer is: its document.
 pub mod Documents

@@ -4,39 +4,22 @@
 
 #![tactic(auto)]
 
-ghost use Rattle.std.specs.Prelude.{◌≡◌, length, drop, [], map};
+ghost use Rattle.std.specs.Prelude.{◌≡◌, length, map};
 ghost use Rattle.table.specs.Document.{Doc, nil};
 ghost use Rattle.build.specs.Documents.{softline_doc, intersperse_doc};
 ghost use Rattle.buffer.specs.Parts.{lines};
 ghost use Rattle.results.specs.Standing.{out_notes};
-ghost use Rattle.footer.specs.Digits.{digits_on};
 ghost use Rattle.words.specs.Documents.{leaf_doc};
 ghost use Rattle.footer.specs.Documents.{within_doc, comma_doc, headed_doc, told_doc, footer_doc};
 ghost use Rattle.words.specs.Build.{Is, Shares, Gives};
 
+use append::put_digits;
 use block::Block;
 use buffer::parts::{behind, front, put};
 use build::{Counts, Made};
 use results::tolerance::{count, next_out};
 use table::{Indent, NodeNo};
 use words::{BELOW, Shared, add_word, leaf};
-
-// Puts a number's digits at the end; gives where the first of them stands.
-fn put_digits(out: &mut [u8], n: usize) -> usize
-    ensures { drop result out.new ≡ digits_on (length out.old) n [] }
-{
-    let mut n = n;
-    let mut at = out.len();
-    while 0 < at {
-        at -= 1;
-        out[at] = b'0' + (n % 10) as u8;
-        n /= 10;
-        if n == 0 {
-            return at;
-        }
-    }
-    at
-}
 
 // That so many pallets are all within tolerance.
 fn all_within(c: Counts, table: &mut [u32], text: &mut [u8], rows: usize) -> Made

@@ -6,7 +6,7 @@ use Rattle.events.proofs.staged.Goals as goal
 
 pub returns-then-slots-gt-RECORDS : goal.returns-then-slots-gt-RECORDS
 returns-then-slots-gt-RECORDS c =
-    refused_called _ _ _ _ c.if-slots-gt-RECORDS.true (c.fill.ensures.after (λ y e. e)) (c.fill-2.ensures.after (λ y e. e))
+    refused_called _ _ _ _ c.if-slots-gt-RECORDS.true (c.fill.ensures.after (λ y e. e)) (c.fill-then-slots-gt-RECORDS.ensures.after (λ y e. e))
 
 pub returns : goal.returns
 returns c = staged-asked _ _ _ _ _ _ _ _ _ (simp length-take (omega arith)) c.layout.ensures
