@@ -14,5 +14,5 @@ slice_bounds-text-end c =
 pub returns : goal.returns
 returns c =
     let args = c.args in
-    blanks-made args.by.0 c.requires args.self args.table.now args.text.now c.to_column-columns.ensures
+    blanks-made args.by.0 c.requires args.self args.table.now args.text.now c.from-columns.ensures
     c.text.ensures
