@@ -123,7 +123,7 @@ impl Counts {
             ≡ text_made self table.old text.old (replicate by.0 32) by.0 }
     {
         let blanks = [b' '; 1000];
-        let columns = by.to_column();
+        let columns = Column::from(by);
         self.text(table, text, &blanks[..by.0 as usize], columns)
     }
 

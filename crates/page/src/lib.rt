@@ -61,7 +61,7 @@ pub fn feed_line(out: &mut [u8], page: Page, indent: Indent) -> Put
     }
     buffer::newline(out, page.used, blanks);
     Put::On(Page {
-        column: indent.to_column(),
+        column: Column::from(indent),
         used: page.used + 1 + blanks,
         events: page.events,
     })

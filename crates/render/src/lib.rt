@@ -116,7 +116,7 @@ fn visit(
         table::UNION => lay::lay_union(work, s, due, a, table[at + 2]),
         table::ALIGN => {
             let column = s.page.column;
-            let indent = column.to_indent();
+            let indent = Indent::from(column);
             Turn::Go(
                 s,
                 Due {

@@ -44,21 +44,21 @@ pub struct Indent(pub u32);
 #[derive(Clone, Copy)]
 pub struct NodeNo(pub u32);
 
-impl Column {
-    // Align sets the indentation to the column.
-    pub fn to_indent(self) -> Indent
-        ensures { result.0 ≡ self.0 }
-    {
-        Indent(self.0)
+// Align sets the indentation to the column.
+impl From<Column> for Indent {
+    ghost from_gives = { λ column indent. indent.0 ≡ column.0 };
+
+    fn from(column: Column) -> Indent {
+        Indent(column.0)
     }
 }
 
-impl Indent {
-    // The indentation that a Hardline writes blanks to becomes the column.
-    pub fn to_column(self) -> Column
-        ensures { result.0 ≡ self.0 }
-    {
-        Column(self.0)
+// The indentation that a Hardline writes blanks to becomes the column.
+impl From<Indent> for Column {
+    ghost from_gives = { λ indent column. column.0 ≡ indent.0 };
+
+    fn from(indent: Indent) -> Column {
+        Column(indent.0)
     }
 }
 

@@ -17,5 +17,5 @@ returns c =
     (omega arith)
     (line-put _ _ _ _ (omega arith) c.newline.ensures)
     c.newline.auto.dst
-    (λ ev. c.to_column.ensures)
+    (λ ev. c.from.ensures)
     (omega arith)

@@ -94,7 +94,7 @@ returns-in-8 c =
 
 pub returns-in-9 : goal.returns-in-9
 returns-in-9 c =
-    visit-align c.requires _ c.in-9.is c.to_indent-indent.ensures
+    visit-align c.requires _ c.in-9.is c.from-indent.ensures
 
 pub returns-in_default : goal.returns-in_default
 returns-in_default c =
