@@ -6,6 +6,7 @@ use Prim.Native.Nat.{ℕ, zero, suc, ◌+◌, ◌-◌, ◌≤◌, ◌<◌}
 use native.Mathlib.Omega.{arith}
 use native.Mathlib.Nat.{zero-add, suc-add}
 use mathlib.Core.Bool.{Bool, true, false, ◌||◌}
+use Rattle.std.specs.Prelude.{Option, Some, None}
 use mathlib.Core.List.{List, [], ◌∷◌}
 use lib.ListN.{length}
 use lib.Dec.{ltb}
@@ -20,8 +21,6 @@ use Rattle.machine.specs.Well.{Backed, Stacked}
 use Rattle.page.specs.Reading.{page_of, Within}
 use Rattle.page.specs.Putting.{Written, Noted}
 use Rattle.page.specs.declared.Page.{Page}
-use Rattle.page.specs.declared.Put.{Put}
-use Rattle.page.specs.declared.Put.TheVariants.{On, Full}
 use Rattle.page.proofs.Events.{length-events}
 use Rattle.page.proofs.Pages.{taken_is, written-full-says, written-on-says, noted-full-says, noted-on-says, put_back}
 use Rattle.waiting.specs.Area.{tag_at, number_at, indent_at, mode_at, due_of, due_at, saved_words_at}
@@ -38,13 +37,13 @@ use Rattle.lay.specs.declared.Turn.TheVariants.{Go, Done, Stop}
 
 -- ---- a Text and a Hardline
 
-module _ (s : State) {out out' : List ℕ} {r : Put} {grown : rules.Page → rules.Page} (p : Written s.page out r out' grown) (past : Bool) where
-  pub put_full : r ≡ Full → Wrote s out (Stop 8 (record { 0 = 0 }) s.left) out' grown past
+module _ (s : State) {out out' : List ℕ} {r : Option Page} {grown : rules.Page → rules.Page} (p : Written s.page out r out' grown) (past : Bool) where
+  pub put_full : r ≡ None → Wrote s out (Stop 8 (record { 0 = 0 }) s.left) out' grown past
   put_full e =
       record { turning = λ L ev w room in-s. record { same = sym (rw (room, written-full-says p e ev)); within = tt } }
 
   -- o is the flag afterwards
-  pub put_on : (page : Page) (o : ℕ) → r ≡ On page → flag_of o ≡ past
+  pub put_on : (page : Page) (o : ℕ) → r ≡ Some page → flag_of o ≡ past
       → Wrote s out (Done (record { page = page; left = s.left; past = o; depth = s.depth })) out' grown past
   put_on page o e eo =
       record {
@@ -54,8 +53,8 @@ module _ (s : State) {out out' : List ℕ} {r : Put} {grown : rules.Page → rul
       }
 
 -- the column that a Text or a Hardline leaves
-pub column-on : (s : State) {out out' : List ℕ} {r : Put} {grown : rules.Page → rules.Page} → Written s.page out r out' grown
-    → (page : Page) → r ≡ On page → page.column.0 ≡ (grown (page_of s.page out [])).column
+pub column-on : (s : State) {out out' : List ℕ} {r : Option Page} {grown : rules.Page → rules.Page} → Written s.page out r out' grown
+    → (page : Page) → r ≡ Some page → page.column.0 ≡ (grown (page_of s.page out [])).column
 column-on s p page e = ap (λ (q : rules.Page). q.column) (written-on-says p page e []).1
 
 -- the flag after a Text
@@ -191,12 +190,12 @@ module _ (s : State) (w : List ℕ) (r : ℕ) (f : Nearest w s.depth 1 r) where
 
 -- ---- an annotation
 
-module _ (s : State) {ev ev' : List ℕ} (w' : List ℕ) (n : NodeNo) (l : ℕ) {r : Put} (p : Noted s.page ev r ev' (marked 1 l)) where
-  pub annotated-full : (past : Bool) (q : List Entry) → r ≡ Full → Annotated s ev (Stop 9 n s.left) ev' w' (λ L p. event L n.0 1 l p s.left past q)
+module _ (s : State) {ev ev' : List ℕ} (w' : List ℕ) (n : NodeNo) (l : ℕ) {r : Option Page} (p : Noted s.page ev r ev' (marked 1 l)) where
+  pub annotated-full : (past : Bool) (q : List Entry) → r ≡ None → Annotated s ev (Stop 9 n s.left) ev' w' (λ L p. event L n.0 1 l p s.left past q)
   annotated-full past q e =
       record { turning = λ L out slots in-s. record { same = sym (rw (slots, noted-full-says p out in-s e)); within = tt } }
 
-  pub annotated-on : (w : List ℕ) (page : Page) (due : DueNode) (a i m : ℕ) → r ≡ On page → due ≡ due_of a i m
+  pub annotated-on : (w : List ℕ) (page : Page) (due : DueNode) (a i m : ℕ) → r ≡ Some page → due ≡ due_of a i m
       → stack_of (s.depth + 1) w' ≡ closing n.0 l ∷ stack_of s.depth w
       → Annotated s ev (Go (record { page = page; left = s.left; past = s.past; depth = s.depth + 1 }) due) ev' w'
       (λ L p. event L n.0 1 l p s.left (flag_of s.past) (node a i (mode_of m) ∷ closing n.0 l ∷ stack_of s.depth w))

@@ -18,7 +18,7 @@ ghost use Rattle.fitting.specs.Fitting.{Fitting};
 ghost use Rattle.lay.specs.Turning.{restored_of, Kept, Wrote, Annotated, Restoring};
 
 use fitting::Fit;
-use page::{Page, Put};
+use page::Page;
 use table::{Indent, NodeNo};
 use waiting::{Due, Mode, Saved};
 
@@ -59,7 +59,7 @@ pub fn lay_text(
 {
     let now = s.page;
     match page::write_text(text, from, len, columns, out, now) {
-        Put::On(page) => {
+        Some(page) => {
             let past = if width < page.column.0 { 1 } else { s.past };
             Turn::Done(State {
                 page,
@@ -68,7 +68,7 @@ pub fn lay_text(
                 depth: s.depth,
             })
         }
-        Put::Full => Turn::Stop(8, NodeNo(0), s.left),
+        None => Turn::Stop(8, NodeNo(0), s.left),
     }
 }
 
@@ -83,13 +83,13 @@ pub fn lay_hardline(out: &mut [u8], work: &[u32], s: State, own: Indent) -> Turn
     let now = s.page;
     let indent = waiting::next_indent(work, s.depth, own);
     match page::feed_line(out, now, indent) {
-        Put::On(page) => Turn::Done(State {
+        Some(page) => Turn::Done(State {
             page,
             left: s.left,
             past: s.past,
             depth: s.depth,
         }),
-        Put::Full => Turn::Stop(8, NodeNo(0), s.left),
+        None => Turn::Stop(8, NodeNo(0), s.left),
     }
 }
 
@@ -236,7 +236,7 @@ pub fn lay_annotated(
 {
     let node = due.node;
     let now = s.page;
-    let Put::On(page) = page::note_event(events, now, 1, label) else {
+    let Some(page) = page::note_event(events, now, 1, label) else {
         return Turn::Stop(9, node, s.left);
     };
     waiting::push_closing(work, s.depth, node, label);

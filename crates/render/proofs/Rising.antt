@@ -4,6 +4,7 @@ use mathlib.Core.Path.{◌≡◌, refl, sym, ap, ◌∙◌}
 use Prim.Native.Nat.{ℕ, zero, suc, ◌-◌, ◌*◌, ◌/◌, ◌≤◌, ◌<◌}
 use native.Mathlib.Omega.{arith}
 use mathlib.Core.Bool.{true}
+use Rattle.std.specs.Prelude.{Option, Some, None}
 use mathlib.Core.List.{List}
 use lib.ListN.{length}
 use Rattle.rules.specs.Call.{event_words}
@@ -14,8 +15,6 @@ use Rattle.machine.proofs.Kept.{stacked_mono}
 use Rattle.page.specs.Reading.{page_of, Within}
 use Rattle.page.specs.Putting.{Noted}
 use Rattle.page.specs.declared.Page.{Page}
-use Rattle.page.specs.declared.Put.{Put}
-use Rattle.page.specs.declared.Put.TheVariants.{On, Full}
 use Rattle.page.proofs.Pages.{noted-full-says, noted-on-says, noted-counts}
 use Rattle.waiting.specs.Area.{area_words, tag_at, number_at, indent_at, due_at, saved_words_at}
 use Rattle.waiting.specs.Stack.{flag_of, stack_of}
@@ -136,9 +135,9 @@ module _ {ev₀ w : List ℕ} {s₀ : State} {ev : List ℕ} {s : State} (h : Ri
         }
 
     -- an annotation ends
-    module _ (no_Node : tag_at w d ≡ 0 → ⊥) (no-trial : tag_at w d ≡ 1 → ⊥) {r : Put} {ev' : List ℕ}
+    module _ (no_Node : tag_at w d ≡ 0 → ⊥) (no-trial : tag_at w d ≡ 1 → ⊥) {r : Option Page} {ev' : List ℕ}
         (p : Noted s.page ev r ev' (marked 0 (indent_at w d))) (len : length ev' ≡ length ev) where
-      pub rise-full : (n : NodeNo) → n.0 ≡ number_at w d → r ≡ Full → TakenUp s₀ ev₀ w (Stop 9 n s.left) ev'
+      pub rise-full : (n : NodeNo) → n.0 ≡ number_at w d → r ≡ None → TakenUp s₀ ev₀ w (Stop 9 n s.left) ev'
       unfolding take_up
       rise-full n en z =
           record {
@@ -152,10 +151,10 @@ module _ {ev₀ w : List ℕ} {s₀ : State} {ev : List ℕ} {s : State} (h : Ri
             empty = λ q e. stop-is-not-done 9 s.left n q e;
           }
 
-      pub rise_close : (page : Page) → r ≡ On page → Rising ev₀ w s₀ ev' (lower s page s.past)
+      pub rise_close : (page : Page) → r ≡ Some page → Rising ev₀ w s₀ ev' (lower s page s.past)
       unfolding take_up
       rise_close page z =
-          let p₁ : Noted s.page ev (On page) ev' (marked 0 (indent_at w d)) = rw z at p in
+          let p₁ : Noted s.page ev (Some page) ev' (marked 0 (indent_at w d)) = rw z at p in
           let counts = noted-counts p₁ h.noted in
           record {
             depth = omega (arith, h.depth);

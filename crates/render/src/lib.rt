@@ -10,7 +10,7 @@ ghost use Rattle.render.specs.TakeUp.{Rises, TakenUp, TurnedUp};
 ghost use Rattle.render.specs.Best.{Laid, RanTo};
 
 use lay::{State, Turn};
-use page::{Page, Put};
+use page::Page;
 use table::{Column, Indent, NodeNo};
 use waiting::{Due, Mode};
 
@@ -151,7 +151,7 @@ fn take_up_ends(events: &mut [u32], work: &[u32], state: State) -> Turn
             s.past = saved.past;
         } else {
             let now = s.page;
-            let Put::On(page) = page::note_event(events, now, 0, waiting::label_at(work, d)) else {
+            let Some(page) = page::note_event(events, now, 0, waiting::label_at(work, d)) else {
                 return Turn::Stop(9, waiting::node_at(work, d), s.left);
             };
             s.page = page;

@@ -11,6 +11,6 @@ pub returns : goal.returns
 returns c =
     let start = c.args in
     annotated-on start.s _ start.due.node _ c.note_event.ensures start.work.now _ _ _ _ start.due.mode.0
-    c.in-On.is
+    c.in-Some.is
     c.child_of.ensures
     c.push_closing.ensures

@@ -6,15 +6,15 @@ use Rattle.lay.proofs.lay_text.Goals as goal
 pub returns-then-width-page : goal.returns-then-width-page
 returns-then-width-page c =
     let start = c.args in
-    let column = column-on start.s c.write_text.ensures _ c.in-On.is in
-    put_on start.s c.write_text.ensures _ _ 1 c.in-On.is (past-set start.s.past _ _ (rw column at c.if-width-page.true))
+    let column = column-on start.s c.write_text.ensures _ c.in-Some.is in
+    put_on start.s c.write_text.ensures _ _ 1 c.in-Some.is (past-set start.s.past _ _ (rw column at c.if-width-page.true))
 
 pub returns-else-width-page : goal.returns-else-width-page
 returns-else-width-page c =
     let start = c.args in
-    let column = column-on start.s c.write_text.ensures _ c.in-On.is in
-    put_on start.s c.write_text.ensures _ _ start.s.past c.in-On.is (past-kept start.s.past _ _ (rw column at c.if-width-page.false))
+    let column = column-on start.s c.write_text.ensures _ c.in-Some.is in
+    put_on start.s c.write_text.ensures _ _ start.s.past c.in-Some.is (past-kept start.s.past _ _ (rw column at c.if-width-page.false))
 
-pub returns-in-Full : goal.returns-in-Full
-returns-in-Full c =
-    put_full c.args.s c.write_text.ensures _ c.in-Full.is
+pub returns-in-None : goal.returns-in-None
+returns-in-None c =
+    put_full c.args.s c.write_text.ensures _ c.in-None.is

@@ -43,7 +43,7 @@ pub loop-s-preserved : goal.loop-s-preserved
 loop-s-preserved c =
     let here = c.loop-s.invariant in
     let event = rw c.label_at.ensures at c.note_event.ensures in
-    rise_close here c.loop-s-test.true (λ e. c.if-tag-eq-NODE.false (c.tag_at-tag.ensures ∙ e)) (λ e. c.if-tag-eq-TRIAL.false (c.tag_at-tag.ensures ∙ e)) event c.note_event.auto.events _ c.in-On.is
+    rise_close here c.loop-s-test.true (λ e. c.if-tag-eq-NODE.false (c.tag_at-tag.ensures ∙ e)) (λ e. c.if-tag-eq-TRIAL.false (c.tag_at-tag.ensures ∙ e)) event c.note_event.auto.events _ c.in-Some.is
 
 pub shape_of-events : goal.shape_of-events
 shape_of-events c = c.loop-s.invariant.long
