@@ -25,7 +25,9 @@ use Rattle.machine.proofs.Rules.{layout_is}
 use Rattle.page.specs.Reading.{events_of}
 use Rattle.page.proofs.Events.{length-events}
 use Rattle.render.specs.Visit.{Start}
-use Rattle.render.specs.Best.{Laid}
+use Rattle.std.specs.Prelude.{Result}
+use Rattle.lay.specs.declared.Stopped.{Stopped}
+use Rattle.render.specs.Best.{Laid, answer_of, place_of, left_of, used_of, noted_of}
 use Rattle.render.specs.declared.End.{End}
 use Rattle.layout.specs.Called.{lent, Called, Decided}
 use Rattle.layout.specs.declared.Report.{Report}
@@ -130,8 +132,8 @@ module _ (l : Lent) (right : buffers_right (asks l) ≡ true) (sound : (check l.
         width = b.width;
       }
 
-  pub run-decided : {r : End} {out' noted' : List ℕ} → Laid l.table l.text l.out l.noted l.width l.limit (nodes l) r out' noted'
-      → Decided (asks l) (record { answer = r.answer; place = r.place; steps = l.limit - r.left; used = r.used; events = r.events }) out' noted'
+  pub run-decided : {r : Result End Stopped} {out' noted' : List ℕ} → Laid l.table l.text l.out l.noted l.width l.limit (nodes l) r out' noted'
+      → Decided (asks l) (record { answer = answer_of r; place = record { 0 = place_of r }; steps = l.limit - left_of r; used = used_of r; events = noted_of r }) out' noted'
   run-decided laid =
       let s = start_of in
       record {

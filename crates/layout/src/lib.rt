@@ -77,14 +77,21 @@ fn decide(
         return refused(u32::from(fault.why), fault.place);
     }
     let nodes = (table.len() / 4) as u32;
-    let end = render::best(table, text, out, events, work, width, limit, nodes);
-    let place = end.place;
-    Report {
-        answer: end.answer,
-        place,
-        steps: limit - end.left,
-        used: end.used,
-        events: end.events,
+    match render::best(table, text, out, events, work, width, limit, nodes) {
+        Ok(end) => Report {
+            answer: 0,
+            place: NodeNo(0),
+            steps: limit - end.left,
+            used: end.used,
+            events: end.events,
+        },
+        Err(stopped) => Report {
+            answer: u32::from(stopped.why),
+            place: stopped.place,
+            steps: limit - stopped.left,
+            used: 0,
+            events: 0,
+        },
     }
 }
 

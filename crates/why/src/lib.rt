@@ -14,13 +14,14 @@ ghost use Rattle.choice.specs.Pick.{pick};
 ghost use Rattle.rules.specs.Why.{why_refused};
 ghost use Rattle.layout.specs.Called.{lent};
 ghost use Rattle.render.specs.Visit.{Start};
+ghost use Rattle.render.specs.Best.{answer_of};
 ghost use Rattle.why.specs.Promise.{why_of, Visiting, Visited, Asked, Decided, WhyCalled};
 
-use lay::State;
-use render::Ran;
+use lay::{State, Stopped};
+use render::{End, Ran};
 use summary::Reason;
 use table::NodeNo;
-use waiting::Due;
+use waiting::{Due, Mode};
 
 // The answer for a step that is no visit of a Group met broken in layout.
 const NO_VISIT: u32 = 13;
@@ -30,6 +31,16 @@ const NO_VISIT: u32 = 13;
 pub enum Answer {
     Refused(u32),
     Told(Reason),
+}
+
+// The number that a run answers with: 0, or that of its refusal.
+fn number_of(end: Result<End, Stopped>) -> u32
+    ensures { result ≡ answer_of end }
+{
+    match end {
+        Ok(_) => 0,
+        Err(stopped) => u32::from(stopped.why),
+    }
 }
 
 // A run that ended before the visit: its own 6 to 9, or 13 if it ended with 0.
@@ -51,7 +62,7 @@ fn visit(table: &[u32], work: &mut [u32], width: u32, s: State, due: Due) -> Ans
     if table[at] != table::GROUP {
         return Answer::Refused(NO_VISIT);
     }
-    if due.mode.0 != 0 {
+    if let Mode::Flat = due.mode {
         return Answer::Refused(NO_VISIT);
     }
     let child = NodeNo(table[at + 1]);
@@ -80,15 +91,16 @@ fn ask(
     }
     if limit < step {
         let end = render::best(table, text, out, events, work, width, limit, nodes);
-        return ended(end.answer);
+        return ended(number_of(end));
     }
     match render::run(table, text, out, events, work, width, step - 1, nodes) {
         Ran::Ended(end) => {
+            let answer = number_of(end);
             // A node due in a fit test is no visit of layout.
-            if end.answer == 7 {
+            if answer == 7 {
                 return Answer::Refused(NO_VISIT);
             }
-            ended(end.answer)
+            ended(answer)
         }
         Ran::AtLimit(s, due) => visit(table, work, width, s, due),
     }

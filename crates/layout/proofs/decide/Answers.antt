@@ -26,19 +26,29 @@ overflow_cast-nodes c =
     let sound : (check l.table l.text).answer ≡ 0 = ap (λ (f : Fault). f.answer) (sym c.in_default.ensures) in
     omega (arith, nodes-small l right sound)
 
-pub best-end-requires : goal.best-end-requires
-best-end-requires c =
+pub best-requires : goal.best-requires
+best-requires c =
     let l : Lent = record { table = c.args.table.now; text = c.args.text.now; width = c.args.width; limit = c.args.limit; out = c.args.out.now; noted = c.args.events.now; area = c.args.work.now } in
     let right : buffers_right (asks l) ≡ true = sym c.buffers_right.ensures ∙ c.if-not-buffers_right.false in
     let sound : (check l.table l.text).answer ≡ 0 = ap (λ (f : Fault). f.answer) (sym c.in_default.ensures) in
     start_of l right sound
 
 pub overflow_sub-result : goal.overflow_sub-result
-overflow_sub-result c = omega (arith, c.best-end.ensures.left)
+overflow_sub-result c = let ran = rw c.in-Ok.is at c.best.ensures in omega (arith, ran.left)
 
-pub returns : goal.returns
-returns c =
+pub overflow_sub-result-in-Err : goal.overflow_sub-result-in-Err
+overflow_sub-result-in-Err c = let ran = rw c.in-Err.is at c.best.ensures in omega (arith, ran.left)
+
+pub returns-in-Ok : goal.returns-in-Ok
+returns-in-Ok c =
     let l : Lent = record { table = c.args.table.now; text = c.args.text.now; width = c.args.width; limit = c.args.limit; out = c.args.out.now; noted = c.args.events.now; area = c.args.work.now } in
     let right : buffers_right (asks l) ≡ true = sym c.buffers_right.ensures ∙ c.if-not-buffers_right.false in
     let sound : (check l.table l.text).answer ≡ 0 = ap (λ (f : Fault). f.answer) (sym c.in_default.ensures) in
-    run-decided l right sound c.best-end.ensures
+    run-decided l right sound (rw c.in-Ok.is at c.best.ensures)
+
+pub returns-in-Err : goal.returns-in-Err
+returns-in-Err c =
+    let l : Lent = record { table = c.args.table.now; text = c.args.text.now; width = c.args.width; limit = c.args.limit; out = c.args.out.now; noted = c.args.events.now; area = c.args.work.now } in
+    let right : buffers_right (asks l) ≡ true = sym c.buffers_right.ensures ∙ c.if-not-buffers_right.false in
+    let sound : (check l.table l.text).answer ≡ 0 = ap (λ (f : Fault). f.answer) (sym c.in_default.ensures) in
+    rw c.from.ensures (run-decided l right sound (rw c.in-Err.is at c.best.ensures))
