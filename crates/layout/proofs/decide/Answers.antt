@@ -36,8 +36,8 @@ best-requires c =
 pub overflow_sub-result : goal.overflow_sub-result
 overflow_sub-result c = let ran = rw c.in-Ok.is at c.best.ensures in omega (arith, ran.left)
 
-pub overflow_sub-result-in-Err : goal.overflow_sub-result-in-Err
-overflow_sub-result-in-Err c = let ran = rw c.in-Err.is at c.best.ensures in omega (arith, ran.left)
+pub overflow_sub-result-in-Err-best : goal.overflow_sub-result-in-Err-best
+overflow_sub-result-in-Err-best c = let ran = rw c.in-Err-best.is at c.best.ensures in omega (arith, ran.left)
 
 pub returns-in-Ok : goal.returns-in-Ok
 returns-in-Ok c =
@@ -46,9 +46,9 @@ returns-in-Ok c =
     let sound : (check l.table l.text).answer ≡ 0 = ap (λ (f : Fault). f.answer) (sym c.in_default.ensures) in
     run-decided l right sound (rw c.in-Ok.is at c.best.ensures)
 
-pub returns-in-Err : goal.returns-in-Err
-returns-in-Err c =
+pub returns-in-Err-best : goal.returns-in-Err-best
+returns-in-Err-best c =
     let l : Lent = record { table = c.args.table.now; text = c.args.text.now; width = c.args.width; limit = c.args.limit; out = c.args.out.now; noted = c.args.events.now; area = c.args.work.now } in
     let right : buffers_right (asks l) ≡ true = sym c.buffers_right.ensures ∙ c.if-not-buffers_right.false in
     let sound : (check l.table l.text).answer ≡ 0 = ap (λ (f : Fault). f.answer) (sym c.in_default.ensures) in
-    rw c.from.ensures (run-decided l right sound (rw c.in-Err.is at c.best.ensures))
+    rw c.from-in-Err-best.ensures (run-decided l right sound (rw c.in-Err-best.is at c.best.ensures))
