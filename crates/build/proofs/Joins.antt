@@ -156,10 +156,10 @@ unfolding join_all
 join-on m table text k ks o = ap (λ (x : Outcome). join_all x.made x.table x.text ks) o
 
 -- nothing is joined to a refusal
-pub join-refused : (why : Why) (table text ks : List ℕ) → join_all (Err why) table text ks ≡ outcome (Err why) table text
+pub join-refused : {m : Made} {why : Why} (table text ks : List ℕ) → m ≡ Err why → join_all m table text ks ≡ outcome m table text
 unfolding join_all
-join-refused why table text [] = refl
-join-refused why table text (k ∷ ks) = join-refused why table text ks
+join-refused table text [] e = refl
+join-refused {why = why} table text (k ∷ ks) e = rw e (join-refused {m = Err why} table text ks refl)
 
 module _ {c₀ : Counts} {table₀ text₀ : List ℕ} {present amount right : Bool} {whole : Draft → Built} (begun : Begun c₀ table₀ text₀ present amount right whole) where
   join_along : (ks : List ℕ) {c : Counts} {n : NodeNo} {table text : List ℕ} → Below c₀.nodes ks → Along c₀ table₀ text₀ whole c n.0 ks table text
@@ -174,9 +174,9 @@ module _ {c₀ : Counts} {table₀ text₀ : List ℕ} {present amount right : B
       ap (λ (m : Made). join_all m x.table x.text ks) went.answer ∙ join_along ks b.1 next
 
 -- at the head of either loop: what is left to join comes to the whole
-pub record Joining (text : List ℕ) (whole : Outcome) (long : ℕ) (table : List ℕ) (made : Counts × NodeNo) (left : List ℕ) : Type 0 where
+pub record Joining (text : List ℕ) (whole : Outcome) (long : ℕ) (table : List ℕ) (made : Made) (left : List ℕ) : Type 0 where
   pub kept : length table ≡ long
-  pub joins : join_all (Ok made) table text left ≡ whole
+  pub joins : join_all made table text left ≡ whole
 
 -- the loop from its first answer
 pub join-whole : (A : Asked) {c₀ : Counts} {table₀ text₀ : List ℕ} {present amount right : Bool} {whole : Draft → Built} (n : NodeNo) (ks : List ℕ)
@@ -187,4 +187,4 @@ join-whole A {c₀} {table₀} {text₀} {present} {amount} {right} {whole} n ks
   where
     go : (a : Asked) → A ≡ a → join_all (answered a (Ok (c₀, n))) table₀ text₀ ks ≡ made c₀ table₀ text₀ present amount right whole
     go (Ok u) q = let g = granted q in join_along g.0 ks g.1 g.2
-    go (Err why) q = join-refused why table₀ text₀ ks ∙ refused why q
+    go (Err why) q = join-refused table₀ text₀ ks refl ∙ refused why q

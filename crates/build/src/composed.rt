@@ -1,4 +1,5 @@
 // Constructors put together of others. All of it is asked for first, or with its first part, so that no other part refuses.
+// kept: `let .. else` where a constructor's answer is taken apart: document 01 names that form for the composed constructors.
 ghost use Rattle.std.specs.Prelude.{◌≡◌, true, ◌*◌, ◌≤◌, leb, length, take, replicate};
 ghost use Rattle.build.specs.Parts.{line, line₀};
 ghost use Rattle.build.specs.Solid.{indent_adds};
@@ -27,8 +28,14 @@ impl Counts {
             bytes: 1,
             ..Asks::of(true, nodes)
         };
-        let (c, broken) = self.node(table, text, asks, words_of(HARDLINE, 0, 0, 0))?;
-        let (c, flat) = c.space(table, text)?;
+        let made = self.node(table, text, asks, words_of(HARDLINE, 0, 0, 0));
+        let Ok((c, broken)) = made else {
+            return made;
+        };
+        let made = c.space(table, text);
+        let Ok((c, flat)) = made else {
+            return made;
+        };
         c.flat_alt(table, text, broken, flat)
     }
 
@@ -39,13 +46,19 @@ impl Counts {
         ensures { outcome result table.new text.now
             ≡ first_made self table.old text.now (asks_for true true nodes 0) line₀ }
     {
-        let (c, broken) = self.node(
+        let made = self.node(
             table,
             text,
             Asks::of(true, nodes),
             words_of(HARDLINE, 0, 0, 0),
-        )?;
-        let (c, flat) = c.nil(table, text)?;
+        );
+        let Ok((c, broken)) = made else {
+            return made;
+        };
+        let made = c.nil(table, text);
+        let Ok((c, flat)) = made else {
+            return made;
+        };
         c.flat_alt(table, text, broken, flat)
     }
 
@@ -68,7 +81,10 @@ impl Counts {
         ensures { outcome result table.new text.new
             ≡ softline_made self table.old text.old }
     {
-        let (c, n) = self.broken_or_blank(table, text, 4)?;
+        let made = self.broken_or_blank(table, text, 4);
+        let Ok((c, n)) = made else {
+            return made;
+        };
         c.group(table, text, n)
     }
 
@@ -76,7 +92,10 @@ impl Counts {
         ensures { outcome result table.new text.now
             ≡ softline₀_made self table.old text.now }
     {
-        let (c, n) = self.broken_or_nil(table, text, 4)?;
+        let made = self.broken_or_nil(table, text, 4);
+        let Ok((c, n)) = made else {
+            return made;
+        };
         c.group(table, text, n)
     }
 
@@ -85,7 +104,10 @@ impl Counts {
         ensures { outcome result table.new text.now
             ≡ hang_made self table.old text.now n.0 amount.0 way }
     {
-        let (c, nested) = self.nest_before(table, text, n, amount, way, 1)?;
+        let made = self.nest_before(table, text, n, amount, way, 1);
+        let Ok((c, nested)) = made else {
+            return made;
+        };
         c.align(table, text, nested)
     }
 
@@ -133,8 +155,14 @@ impl Counts {
             ≡ indent_made self table.old text.old n.0 by.0 }
     {
         self.ask_indent(table, text.len(), n, by)?;
-        let (c, blank) = self.blanks(table, text, by)?;
-        let (c, joined) = c.append(table, text, blank, n)?;
+        let made = self.blanks(table, text, by);
+        let Ok((c, blank)) = made else {
+            return made;
+        };
+        let made = c.append(table, text, blank, n);
+        let Ok((c, joined)) = made else {
+            return made;
+        };
         c.hang(table, text, joined, by, 0)
     }
 }

@@ -1,4 +1,5 @@
 // Constructors of lists of nodes, which are joined one after the other. All of it is asked for with the first node.
+// kept: `let .. else` where a constructor's answer is taken apart, as in composed.rt: document 01 names that form.
 ghost use Rattle.std.specs.Prelude.{◌≡◌, ◌&&◌, [], ◌∷◌, ◌+◌, ◌-◌, ◌*◌, ◌<◌, length, take};
 ghost use Rattle.build.specs.Solid.{solid};
 ghost use Rattle.build.specs.Outcome.{outcome};
@@ -65,12 +66,14 @@ impl Counts {
             text.len(),
             Asks::of(present, more),
             NodeNo(first),
-        )?;
+        );
         for &n in rest {
-            let (c, before) = made;
-            made = c.append(table, text, before, NodeNo(n))?;
+            let Ok((c, before)) = made else {
+                return made;
+            };
+            made = c.append(table, text, before, NodeNo(n));
         }
-        Ok(made)
+        made
     }
 
     // The node between the two others.
@@ -111,12 +114,17 @@ impl Counts {
             text.len(),
             Asks::of(present, more),
             NodeNo(first),
-        )?;
+        );
         for &n in rest {
-            let (c, before) = made;
-            let (c, separated) = c.append(table, text, before, separator)?;
-            made = c.append(table, text, separated, NodeNo(n))?;
+            let Ok((c, before)) = made else {
+                return made;
+            };
+            let separated = c.append(table, text, before, separator);
+            let Ok((c, last)) = separated else {
+                return separated;
+            };
+            made = c.append(table, text, last, NodeNo(n));
         }
-        Ok(made)
+        made
     }
 }

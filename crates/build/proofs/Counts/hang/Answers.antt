@@ -1,19 +1,16 @@
 -- `hang`, part by part.
-use Rattle.build.proofs.Handed.{handed_outcome}
-use mathlib.Core.Path.{refl}
 use Rattle.build.specs.Draft.{counted}
 use Rattle.build.proofs.Hangs.{hang-refused, hang-made}
 use Rattle.build.proofs.Counts.hang.Goals as goal
 
-pub returns-in_err-c : goal.returns-in_err-c
+pub returns-in_default : goal.returns-in_default
 unfolding counted
-returns-in_err-c c =
+returns-in_default c =
     let args = c.args in
-    handed_outcome c.from_residual.result c.from_residual.ensures.1
-    (hang-refused args.self args.table.now args.text.now args.n.0 args.amount.0 args.way c.in_err-c.ensures refl)
+    hang-refused args.self args.table.now args.text.now args.n.0 args.amount.0 args.way c.nest_before-made.ensures c.in_default.is
 
 pub returns : goal.returns
 unfolding counted
 returns c =
     let args = c.args in
-    hang-made args.self args.table.now args.text.now args.n.0 args.amount.0 args.way c.in_ok-c.ensures refl c.align.ensures
+    hang-made args.self args.table.now args.text.now args.n.0 args.amount.0 args.way c.nest_before-made.ensures c.in-Ok.is c.align.ensures

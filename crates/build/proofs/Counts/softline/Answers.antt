@@ -1,20 +1,18 @@
 -- `softline`: a line and its group.
-use Rattle.build.proofs.Handed.{handed_outcome}
 use mathlib.Core.Path.{refl}
 use Rattle.build.specs.Parts.{line, softline}
 use Rattle.build.proofs.Lines.{space_one}
 use Rattle.build.proofs.Softlines.{soft-made}
 use Rattle.build.proofs.Counts.softline.Goals as goal
 
-pub returns-in_err-c : goal.returns-in_err-c
+pub returns-in_default : goal.returns-in_default
 unfolding line softline
-returns-in_err-c c =
+returns-in_default c =
     let args = c.args in
-    handed_outcome c.from_residual.result c.from_residual.ensures.1
-    (soft-made args.self args.table.now args.text.now space_one _ _ _ c.in_err-c.ensures refl)
+    soft-made args.self args.table.now args.text.now space_one _ _ _ c.broken_or_blank-made.ensures (rw c.in_default.is refl)
 
 pub returns : goal.returns
 unfolding line softline
 returns c =
     let args = c.args in
-    soft-made args.self args.table.now args.text.now space_one _ _ _ c.in_ok-c.ensures c.group.ensures
+    soft-made args.self args.table.now args.text.now space_one _ _ _ c.broken_or_blank-made.ensures (rw c.in-Ok.is c.group.ensures)
