@@ -22,6 +22,10 @@ kind-below-11 Union = omega arith
 kind-below-11 Align = omega arith
 kind-below-11 Fail = omega arith
 
+-- the same of a word with the kind's number
+pub below-11 : (kind : Kind) (k : ℕ) → kind_number kind ≡ k → k < 11
+below-11 kind k e = rw (← e) (kind-below-11 kind)
+
 abbrev all : List Kind
 all = Nil ∷ Append ∷ Group ∷ FlatAlt ∷ Nest ∷ Hardline ∷ Text ∷ Annotated ∷ Union ∷ Align ∷ Fail ∷ []
 
