@@ -4,23 +4,16 @@
 
 #![tactic(auto)]
 
-use buffer::parts::{front, part_end};
+use buffer::parts::{behind, front};
 use std::io;
 use std::io::Read;
 
 // Runs every input.
 fn run_all<P: Print>(input: &[u8], rt: &P) {
-    let mut at = 0;
-    while at < input.len() {
-        let end = part_end(input, at, b'%');
-        if input.len() <= end {
-            return;
-        }
-        let _told = strip::run(&input[at..end], &mut io::writer(rt), &mut io::writer(rt));
-        at = end + 1;
-        if at < input.len() {
-            at += 1;
-        }
+    let mut rest = input;
+    while let Some(end) = rest.iter().position(|b| *b == b'%') {
+        let _told = strip::run(&rest[..end], &mut io::writer(rt), &mut io::writer(rt));
+        rest = behind(rest, end + 2);
     }
 }
 

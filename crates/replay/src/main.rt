@@ -6,7 +6,8 @@
 
 #![tactic(auto)]
 
-use buffer::parts::{behind, front, line_end, part_end};
+use buffer::lines::Lines;
+use buffer::parts::{behind, front, part_end};
 use std::io;
 use std::io::{Read, Write};
 
@@ -23,27 +24,20 @@ struct Tally {
 
 // Whether a line says something.
 fn says(line: &[u8]) -> bool {
-    if line.len() == 0 {
-        return false;
-    }
-    (line[0] != b'#') & (line[0] != b'%')
+    !matches!(line, [] | [b'#', ..] | [b'%', ..])
 }
 
 // Replays every case.
 fn replay_cases<W: Write>(print: &mut W, input: &[u8]) -> io::Result<Tally> {
     let mut cases: u32 = 0;
     let mut wrong: u32 = 0;
-    let mut at = 0;
-    while at < input.len() {
-        let end = line_end(input, at);
-        let line = &input[at..end];
-        at = end + 1;
+    for line in Lines::new(input) {
         if !says(line) {
             continue;
         }
-        cases = std::num::wrapping_add_u32(cases, 1);
+        cases = cases.wrapping_add(1);
         if !cases::replay(print, line)? {
-            wrong = std::num::wrapping_add_u32(wrong, 1);
+            wrong = wrong.wrapping_add(1);
         }
     }
     Ok(Tally { cases, wrong })
@@ -51,11 +45,7 @@ fn replay_cases<W: Write>(print: &mut W, input: &[u8]) -> io::Result<Tally> {
 
 // Replays every run.
 fn replay_runs<W: Write>(print: &mut W, input: &[u8]) -> io::Result<()> {
-    let mut at = 0;
-    while at < input.len() {
-        let end = line_end(input, at);
-        let line = &input[at..end];
-        at = end + 1;
+    for line in Lines::new(input) {
         if says(line) {
             runs::replay(print, line)?;
         }

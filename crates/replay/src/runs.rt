@@ -3,8 +3,6 @@
 // A run is a line: the table's words in decimal, the text bytes in hexadecimal, width, limit, room and slots, and a name, with
 // `|` between. All buffers are soiled before the call. Written are answer, place and steps, the bytes used, the words of the
 // events used, how much of output, events and work is not zero and must be, and the name.
-ghost use Rattle.std.specs.Prelude.{◌≤◌};
-
 use crate::lines::{narrow, numbers, past};
 use layout::Report;
 use rules::EVENT_WORDS;
@@ -16,54 +14,24 @@ const SLOTS: usize = 4100;
 
 const EVENTS: usize = SLOTS * EVENT_WORDS;
 
-fn least(a: usize, b: usize) -> usize
-    ensures { (result ≤ a) × (result ≤ b) }
-{
-    if a < b { a } else { b }
-}
-
-// Writes a number and a blank.
-fn write_number<W: Write>(print: &mut W, n: u32) -> io::Result<()> {
-    write!(print, "{n} ")
-}
-
-fn as_word(b: u8) -> u32 {
-    b as u32
-}
-
 // The bytes as words, as far as there is room.
 fn widen(bytes: &[u8], wide: &mut [u32]) {
-    let mut i = 0;
-    while i < wide.len() {
-        if bytes.len() <= i {
-            return;
-        }
-        wide[i] = as_word(bytes[i]);
-        i += 1;
+    for (word, byte) in wide.iter_mut().zip(bytes) {
+        *word = u32::from(*byte);
     }
 }
 
 // Writes the words, and a bar.
 fn write_words<W: Write>(print: &mut W, words: &[u32]) -> io::Result<()> {
-    let mut i = 0;
-    while i < words.len() {
-        write_number(print, words[i])?;
-        i += 1;
+    for word in words {
+        write!(print, "{word} ")?;
     }
     print.write_all(b"| ")
 }
 
-// How many words are not zero, from `from` on.
-fn soiled(words: &[u32], from: usize) -> u32 {
-    let mut count: u32 = 0;
-    let mut i = from;
-    while i < words.len() {
-        if words[i] != 0 {
-            count = std::num::wrapping_add_u32(count, 1);
-        }
-        i += 1;
-    }
-    count
+// How many words are not zero.
+fn soiled(words: &[u32]) -> usize {
+    words.iter().filter(|word| **word != 0).count()
 }
 
 // Writes how a run ended and what its buffers hold, the output as words.
@@ -75,18 +43,18 @@ fn report<W: Write>(
     work: &[u32],
     name: &[u8],
 ) -> io::Result<()> {
-    let used = least(r.used as usize, out.len());
-    let marked = least(r.events as usize * EVENT_WORDS, events.len());
-    write_number(print, r.answer)?;
-    write_number(print, r.place.0)?;
-    write_number(print, r.steps)?;
-    print.write_all(b"| ")?;
+    let used = (r.used as usize).min(out.len());
+    let marked = (r.events as usize * EVENT_WORDS).min(events.len());
+    let answer = r.answer;
+    let place = r.place.0;
+    let steps = r.steps;
+    write!(print, "{answer} {place} {steps} | ")?;
     write_words(print, &out[..used])?;
     write_words(print, &events[..marked])?;
-    write_number(print, soiled(out, used))?;
-    write_number(print, soiled(events, marked))?;
-    write_number(print, soiled(work, 0))?;
-    print.write_all(b"|")?;
+    let out = soiled(&out[used..]);
+    let events = soiled(&events[marked..]);
+    let work = soiled(work);
+    write!(print, "{out} {events} {work} |")?;
     print.write_all(name)?;
     print.write_all(b"\n")
 }
@@ -106,7 +74,7 @@ fn run<W: Write>(
     let r = layout::layout(table, text, width, limit, out, events, work);
     let mut wide = [0u32; 65600];
     widen(out, &mut wide);
-    let room = least(out.len(), 65600);
+    let room = out.len().min(65600);
     report(print, r, &wide[..room], events, work, name)
 }
 
@@ -124,8 +92,8 @@ fn lay_out<W: Write>(
     let mut out = [90u8; 65600];
     let mut events = [1515870810u32; EVENTS];
     let mut work = [1515870810u32; 16384];
-    let room = least(room as usize, 65600);
-    let words = least(slots as usize, SLOTS) * EVENT_WORDS;
+    let room = (room as usize).min(65600);
+    let words = (slots as usize).min(SLOTS) * EVENT_WORDS;
     run(
         print,
         table,

@@ -1,9 +1,0 @@
--- `replay::runs::write_words` is safe and ends. Assumes nothing.
-use Rattle.std.proofs.Common.{◌-◌, length}
-use Rattle.replay.proofs.runs.write_words.Given as goal
-
-abbrev pub invariant-loop-i : goal.invariant-loop-i
-invariant-loop-i g l = Unit {0}
-
-abbrev pub decreases-loop-i : goal.decreases-loop-i
-decreases-loop-i g l = length l.words - l.i
