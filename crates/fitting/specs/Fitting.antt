@@ -1,5 +1,5 @@
 -- What the fit test's functions promise, over the step function's `look` and `fit`.
-use Rattle.std.specs.Prelude.{◌≡◌, ℕ, ◌-◌, ◌*◌, ◌≤◌, ◌<◌, Result, Ok, Err, List, ◌∷◌, ◌++◌, length}
+use Rattle.std.specs.Prelude.{◌≡◌, ℕ, ◌+◌, ◌-◌, ◌*◌, ◌≤◌, ◌<◌, Option, Some, None, Result, Ok, Err, List, ◌∷◌, ◌++◌, length, get_or}
 use Rattle.table.specs.Node.{node_at}
 use Rattle.table.specs.Sound.{AllSound}
 use Rattle.rules.specs.Layout as rules
@@ -68,3 +68,10 @@ pub record Below (table : List ℕ) (n left down : ℕ) : Type 0 where
   pub nodes : down ≤ n
   pub steps : down ≤ left
   pub said : (W c : ℕ) (m : rules.Mode) (is : List Item) → machine.fit table W (left - down) (item (n - down) m ∷ is) c ≡ machine.fit table W left (item n m ∷ is) c
+
+-- r is the child of node n, where n is of this kind and its child stands next to it
+pub record NextInRow (table : List ℕ) (kind n : ℕ) (r : Option NodeNo) : Type 0 where
+  pub of_kind : (x : NodeNo) → r ≡ Some x → get_or table (n * 4) 0 ≡ kind
+  pub beside : (x : NodeNo) → r ≡ Some x → get_or table (n * 4 + 1) 0 + 1 ≡ n
+  pub child : (x : NodeNo) → r ≡ Some x → x.0 ≡ n - 1
+  pub none : r ≡ None → get_or table (n * 4) 0 ≡ kind → get_or table (n * 4 + 1) 0 + 1 ≡ n → ⊥

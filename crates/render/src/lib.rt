@@ -36,8 +36,7 @@ pub struct Nested {
     pub due: Due,
 }
 
-// Nests in a row are gone down from the node due, each the child of the one before it and next to it in the table, as far as there are
-// steps. The next one's place is known before this one's child is read, so that a long row doesn't wait for its reads.
+// Nests in a row are gone down from the node due, as far as there are steps.
 fn nests_down(table: &[u32], steps: u32, start: Due) -> Nested
     requires { Held table.now start }
     ensures { Came table.now steps start result }
@@ -45,17 +44,13 @@ fn nests_down(table: &[u32], steps: u32, start: Due) -> Nested
     let mut left = steps;
     let mut due = start;
     while 0 < left {
-        let n = due.node.0;
-        let at = (n as usize) * 4;
-        if table[at] != table::NEST {
+        let Some(node) = fitting::next_in_row(table, table::NEST, due.node) else {
             return Nested { left, due };
-        }
-        if table[at + 1] + 1 != n {
-            return Nested { left, due };
-        }
+        };
+        let at = (due.node.0 as usize) * 4;
         let indent = lay::nest_by(due.indent, table[at + 2], table[at + 3]);
         due = Due {
-            node: NodeNo(n - 1),
+            node,
             indent,
             ..due
         };
