@@ -43,7 +43,7 @@ fn look(
     requires node_in_bounds { node.0 * 4 + 4 ≤ length table.now }
     requires sound { Sound 65536 node.0 (node_at table.now node.0) }
     requires in_bounds { (16384 ≤ length work.old) × (count ≤ 1024) × (column.0 ≤ 65536) }
-    ensures { Stepped table.now width node.0 mode count column.0 work.old result work.new }
+    ensures { Stepped table.now width node.0 mode.0 count column.0 work.old result work.new }
 {
     let at = (node.0 as usize) * 4;
     let kind = table[at];
@@ -59,14 +59,12 @@ fn look(
             NodeNo(a),
             count,
         ),
-        table::FLAT_ALT => match mode {
-            Mode::Broken => Step::Down(NodeNo(a), count),
-            Mode::Flat => Step::Down(NodeNo(b), count),
+        table::FLAT_ALT => if mode.0 == 0 {
+            Step::Down(NodeNo(a), count)
+        } else {
+            Step::Down(NodeNo(b), count)
         },
-        table::HARDLINE => match mode {
-            Mode::Broken => Step::Fits,
-            Mode::Flat => Step::Wide,
-        },
+        table::HARDLINE => if mode.0 == 0 { Step::Fits } else { Step::Wide },
         table::TEXT => {
             let end = column.0 + table[at + 3];
             if end <= width {
@@ -125,7 +123,7 @@ fn walked(
     ensures { Fitted table.now width child.0 depth column.0 left work.old result work.new }
 {
     let mut node = NodeNo(child.0);
-    let mut mode = Mode::Flat;
+    let mut mode = Mode(1);
     let mut count: usize = 0;
     let mut at = depth;
     let mut col = Column(column.0);
@@ -149,16 +147,16 @@ fn walked(
                     count -= 1;
                     node = waiting::fit_node(work, count);
                 }
-                Step::Fits => break 'waiting Mode::Flat,
-                Step::Wide => break 'waiting Mode::Broken,
+                Step::Fits => break 'waiting Mode(1),
+                Step::Wide => break 'waiting Mode(0),
             }
         }
         let Some(next) = waiting::nearest(work, at, Tag::Node) else {
-            break 'waiting Mode::Flat;
+            break 'waiting Mode(1);
         };
         at = next;
         node = waiting::node_at(work, at);
-        mode = Mode::Broken;
+        mode = Mode(0);
     };
     Ok(Fit {
         mode: goes,

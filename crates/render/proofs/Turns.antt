@@ -9,7 +9,7 @@ use lib.ListN.{length}
 use Rattle.machine.specs.Turn.{Turned, turn}
 use Rattle.machine.specs.Well.{Well, weight}
 use Rattle.machine.proofs.Kept.{Next, turn-next, stacked-length}
-use Rattle.waiting.specs.Stack.{top, stack_of}
+use Rattle.waiting.specs.Stack.{flag_of, top, stack_of}
 use Rattle.waiting.specs.declared.Due.{Due}
 use Rattle.waiting.proofs.Laws.{length-stack}
 use Rattle.page.specs.Reading.{page_of, Within}
@@ -41,7 +41,7 @@ module _ {T tx out ev w : List ℕ} {W : ℕ} {s : State} {h : Due} (q : Ready T
   unfolding turn
   next limit more =
       let E = env_of T tx out ev W limit in
-      again-next E q.N q.start.valid more (suc s.left) _ (visited T tx out ev w W limit s h) (turn-next E q.N q.start.valid (page_of s.page out ev) (suc s.left) s.past (top h) (stack_of s.depth w) (well_of T tx out ev w W limit s h q))
+      again-next E q.N q.start.valid more (suc s.left) _ (visited T tx out ev w W limit s h) (turn-next E q.N q.start.valid (page_of s.page out ev) (suc s.left) (flag_of s.past) (top h) (stack_of s.depth w) (well_of T tx out ev w W limit s h q))
 
   module _ {r : Result Turn Stopped} {out' ev' w' : List ℕ} (p : Visited T tx out ev w W s h r out' ev' w') where
     pub turn_go : {c : Due} {a : State} → r ≡ Ok (Go a c) → TurnedUp T tx out ev w W s h (Ok (Go a c)) out' ev' w'

@@ -82,9 +82,10 @@ fn visit(
         table::NIL => Ok(Turn::Done(s)),
         table::APPEND => lay::lay_append(work, s, due, a, table[at + 2]),
         table::GROUP => lay::lay_group(table, work, width, s, due, a),
-        table::FLAT_ALT => match due.mode {
-            Mode::Broken => Ok(Turn::Go(s, lay::child_of(due, a))),
-            Mode::Flat => Ok(Turn::Go(s, lay::child_of(due, table[at + 2]))),
+        table::FLAT_ALT => if due.mode.0 == 0 {
+            Ok(Turn::Go(s, lay::child_of(due, a)))
+        } else {
+            Ok(Turn::Go(s, lay::child_of(due, table[at + 2])))
         },
         table::NEST => {
             let child = Due {
@@ -132,7 +133,7 @@ fn take_up_ends(events: &mut [u32], work: &[u32], state: State) -> Result<Turn, 
             }
             Tag::Trial => {
                 let saved = waiting::saved_at(work, d);
-                if s.past {
+                if s.past != 0 {
                     return Ok(Turn::Go(lay::restored(s, saved, d), waiting::due_at(work, d)));
                 }
                 s.past = saved.past;
@@ -208,7 +209,7 @@ pub fn run(
     let mut due = Due {
         node: NodeNo(nodes - 1),
         indent: Indent(0),
-        mode: Mode::Broken,
+        mode: Mode(0),
     };
     let mut s = State {
         page: Page {
@@ -217,7 +218,7 @@ pub fn run(
             events: 0,
         },
         left: limit,
-        past: false,
+        past: 0,
         depth: 0,
     };
     loop {
