@@ -24,7 +24,7 @@ use table::{Indent, NodeNo, Refusal};
 use waiting::{Due, Saved, Tag};
 
 // A layout on its way: the steps left, whether a Text ended past width in the innermost trial (0 is no), how many entries wait, and the page.
-// kept: a bool for `past` leaves bytes behind it that are copied with each state: a call takes 20 to 28% more instructions.
+// kept: a bool for `past` leaves bytes behind it that are copied at each turn; the figure is at `waiting::Mode`.
 // The state comes first in a turn and the page last in it: then a compiler keeps each of its numbers in a register of its own, a tenth of all
 // instructions (docs/PERFORMANCE.md).
 #[derive(Clone, Copy)]

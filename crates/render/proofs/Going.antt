@@ -32,9 +32,7 @@ use Rattle.lay.specs.declared.Turn.TheVariants.{Go, Done}
 use Rattle.lay.specs.declared.Stopped.{Stopped}
 use Rattle.render.specs.Visit.{Start, Ready, env_of, again}
 use Rattle.render.specs.TakeUp.{take_up, up_from, TurnedUp}
-use Rattle.render.specs.Best.{Laid, end_of, RanTo}
-use Rattle.render.specs.declared.End.{End}
-use Rattle.render.specs.declared.Ran.{Ran}
+use Rattle.render.specs.Best.{Laid, RanTo}
 use Rattle.render.specs.declared.Ran.TheVariants.{Ended, AtLimit}
 use Rattle.render.proofs.Coming.{Comes, comes-on}
 
@@ -271,12 +269,3 @@ module _ {T tx : List ℕ} {W limit N : ℕ} {out₀ ev₀ w₀ out ev w : List 
       ran-stop {x} e =
           let stops : Stops (E T tx W limit N out₀ ev₀) (N - 1) (number x.why) x.place.0 x.left = rw (← g.outs, ← g.evs) (rw e at came) in
           record { laid = laid_stop e; ends = λ seven. stops }
-
--- ---- the end alone
-
-module _ {T tx out ev : List ℕ} {W limit N : ℕ} {r : Ran} {out' ev' w' : List ℕ} (p : RanTo T tx out ev W limit N r out' ev' w') where
-  pub best-ended : {e : Result End Stopped} → r ≡ Ended e → Laid T tx out ev W limit N e out' ev'
-  best-ended same = subst (λ r. Laid T tx out ev W limit N (end_of r) out' ev') same p.laid
-
-  pub best-due : {s : State} {h : Due} → r ≡ AtLimit s h → Laid T tx out ev W limit N (Err (record { why = NoSteps; place = h.node; left = 0 })) out' ev'
-  best-due same = subst (λ r. Laid T tx out ev W limit N (end_of r) out' ev') same p.laid

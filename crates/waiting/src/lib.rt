@@ -39,7 +39,8 @@ pub enum Tag {
 }
 
 // 0 is broken, any other flat.
-// kept: an enum has a tag of one byte, and the bytes behind it are copied with each node due: a call takes 20 to 28% more instructions.
+// kept: an enum has a tag of one byte, and the bytes behind it are copied at each turn: with one here and a bool for `past` a call took 19 to 28%
+// more instructions, and 25 to 43% more time.
 #[derive(Clone, Copy)]
 pub struct Mode(pub u32);
 
