@@ -21,7 +21,7 @@ use lay::{State, Stopped};
 use render::{End, Ran};
 use summary::Reason;
 use table::NodeNo;
-use waiting::{Due, Mode};
+use waiting::Due;
 
 // The answer for a step that is no visit of a Group met broken in layout.
 const NO_VISIT: u32 = 13;
@@ -62,7 +62,7 @@ fn visit(table: &[u32], work: &mut [u32], width: u32, s: State, due: Due) -> Ans
     if table[at] != table::GROUP {
         return Answer::Refused(NO_VISIT);
     }
-    if let Mode::Flat = due.mode {
+    if due.mode.0 != 0 {
         return Answer::Refused(NO_VISIT);
     }
     let child = NodeNo(table[at + 1]);
