@@ -13,7 +13,7 @@ use lib.Seq.{length-take-le}
 use lib.Dec.{leb}
 use borrow.Author.Tests.{eq-eqb, ne_eqb, leb-true}
 use Rattle.buffer.specs.Run.{zeroed}
-use Rattle.table.specs.Fault.{check}
+use Rattle.table.specs.Fault.{Fault, fault, check}
 use Rattle.table.specs.Unfold.{tree, root}
 use Rattle.table.specs.declared.NodeNo.{NodeNo}
 use Rattle.choice.proofs.Tests.{and-true}
@@ -60,9 +60,11 @@ module _ {g : Given} {r : Report} {out noted : List ℕ} where
   pub sizes-decided : buffers_right g ≡ false → r ≡ refused 1 (record { 0 = 0 }) → Decided g r out noted
   sizes-decided e is = refusal-decided 1 (record { 0 = 0 }) is (call_sizes g e)
 
-  pub fault-decided : (a : ℕ) (n : NodeNo) → buffers_right g ≡ true → (a ≡ (check g.table g.text).answer) × (n.0 ≡ (check g.table g.text).place) → (a ≡ 0 → ⊥)
-      → r ≡ refused a n → Decided g r out noted
-  fault-decided a n e fault some is = refusal-decided a n is (call-fault g e (λ z. some (fault.0 ∙ z)) ∙ rw (fault.0, fault.1))
+  pub fault-decided : (a : ℕ) (n : NodeNo) → buffers_right g ≡ true → fault a n.0 ≡ check g.table g.text → (a ≡ 0 → ⊥) → r ≡ refused a n → Decided g r out noted
+  fault-decided a n e told some is =
+      let answers : a ≡ (check g.table g.text).answer = ap (λ (f : Fault). f.answer) told in
+      let stands : n.0 ≡ (check g.table g.text).place = ap (λ (f : Fault). f.place) told in
+      refusal-decided a n is (call-fault g e (λ z. some (answers ∙ z)) ∙ rw (answers, stands))
 
 -- ---- the run
 

@@ -73,10 +73,8 @@ fn decide(
     if !buffers_right(out.len(), events.len(), work.len(), width, limit) {
         return refused(1, NodeNo(0));
     }
-    let fault = table::validate(table, text);
-    let place = fault.place;
-    if fault.answer != 0 {
-        return refused(fault.answer, place);
+    if let Err(fault) = table::validate(table, text) {
+        return refused(u32::from(fault.why), fault.place);
     }
     let nodes = (table.len() / 4) as u32;
     let end = render::best(table, text, out, events, work, width, limit, nodes);

@@ -10,13 +10,15 @@ use table::Fault;
 // Writes what was found and the case's name, and what was wanted where it is something else.
 fn report<W: Write>(
     print: &mut W,
-    found: Fault,
+    found: Result<(), Fault>,
     answer: u32,
     place: u32,
     name: &[u8],
 ) -> io::Result<bool> {
-    let found_answer = found.answer;
-    let found_place = found.place.0;
+    let (found_answer, found_place) = match found {
+        Ok(()) => (0, 0),
+        Err(fault) => (u32::from(fault.why), fault.place.0),
+    };
     write!(print, "{found_answer} {found_place}")?;
     print.write_all(name)?;
     let right = (found_answer == answer) & (found_place == place);

@@ -1,50 +1,21 @@
 -- The answer at each way out of the code: what the tests on the way say of `columns_right`, `text_fault`, `fault_of` and `fault_at`.
 -- Assumes nothing.
-use Prim.Native.Nat.{ℕ, ◌+◌, ◌*◌, ◌≤◌, ◌<◌}
+use Prim.Native.Nat.{ℕ, zero, suc, ◌+◌, ◌*◌, ◌/◌, ◌≤◌, ◌<◌}
+use native.Mathlib.Nat.{not-suc-le-zero}
 use native.Mathlib.Omega.{arith}
-use mathlib.Core.Path.{◌≡◌, sym, ap, ◌∙◌}
-use mathlib.Core.Bool.{Bool, true, false, ◌&&◌}
-use mathlib.Core.List.{List}
-use lib.ListN.{length, get_or, take, drop}
-use lib.Dec.{eqb, leb}
-use borrow.Author.Tests.{lt-ltb, le-ltb, le-leb, lt-leb, ne_eqb}
-use Rattle.choice.specs.Pick.{pick}
+use mathlib.Core.Path.{◌≡◌, ap, ◌∙◌}
+use mathlib.Core.Bool.{true, false}
+use mathlib.Core.List.{List, []}
+use lib.ListN.{length, get_or, drop}
+use borrow.Author.Tests.{lt-ltb, le-ltb, ne_eqb}
+use Rattle.std.specs.Simd.{first_chunks}
+use Rattle.std.proofs.lemmas.List.{get_or-take, get_or-drop}
 use Rattle.table.specs.Kinds.{kind_at}
-use Rattle.table.specs.declared.KindInfo.{KindInfo}
-use Rattle.buffer.specs.Utf8.{well_formed, ascii, no_feed}
+use Rattle.table.specs.Node.{word}
+use Rattle.table.specs.declared.kind.KindInfo.{KindInfo}
 use Rattle.table.specs.Parts.{text_fault}
-use Rattle.table.specs.Fault.{Fault, fault, unused_zero, children_below, nest_in_range, columns_fit, columns_right, fault_of, fault_at}
-use Rattle.table.proofs.Accept.{part_length}
+use Rattle.table.specs.Fault.{unused_zero, children_below, nest_in_range, fault_of, fault_at}
 use Rattle.table.proofs.KindRule.{append-entry, group-entry, text-entry}
-
--- ---- columns
-
-module _ (bytes : List ℕ) (c : ℕ) where
-  pub columns_plain : ascii bytes ≡ true → eqb c (length bytes) ≡ columns_fit bytes c
-  columns_plain e = rw e
-
-  pub columns-wide : ascii bytes ≡ false → well_formed bytes && leb c (length bytes) ≡ columns_fit bytes c
-  columns-wide e = rw e
-
--- ---- a Text
-
-module _ (text : List ℕ) (a b c : ℕ) where
-  pub text_outside : length text < a + b → 4 ≡ text_fault text a b c
-  text_outside h = rw (lt-leb (a + b) (length text) h)
-
-  -- a line feed in it
-  pub text-fed : a + b ≤ length text → no_feed (take b (drop a text)) ≡ false → 5 ≡ text_fault text a b c
-  unfolding columns_right
-  text-fed h e = rw (le-leb (a + b) (length text) h, e)
-
-  -- no line feed in it: its columns decide
-  pub text-inside : (p : Bool) → a + b ≤ length text → no_feed (take b (drop a text)) ≡ true → columns_fit (take b (drop a text)) c ≡ p → pick p 0 5 ≡ text_fault text a b c
-  unfolding columns_right
-  text-inside p h u e = rw (le-leb (a + b) (length text) h, u, e)
-
-  -- all of it below 128: columns equal length
-  pub text_plain : a + b ≤ length text → ascii (take b (drop a text)) ≡ true → columns_fit (take b (drop a text)) c ≡ eqb c b
-  text_plain h e = sym (columns_plain (take b (drop a text)) c e) ∙ ap (eqb c) (part_length text a b h)
 
 -- ---- a node
 
@@ -87,13 +58,22 @@ module _ (text : List ℕ) (n k a b c : ℕ) (info : KindInfo) (known : k < 11) 
       unfolding fault_of
       fault-none m ne = rw (lt-ltb k 11 known, ← entry, u, d, m, ne_eqb k 6 ne)
 
--- the words that the code reads are the node's
-pub fault_read : (table text : List ℕ) (n f : ℕ) → f ≡ fault_of text n (get_or table (n * 4) 0) (get_or table (n * 4 + 1) 0) (get_or table (n * 4 + 2) 0) (get_or table (n * 4 + 3) 0) → fault_at table text n ≡ f
-unfolding fault_at
-fault_read table text n f e =
-    let z : n * 4 + 0 ≡ n * 4 = omega arith in
-    ap (λ (i : ℕ). fault_of text n (get_or table i 0) (get_or table (n * 4 + 1) 0) (get_or table (n * 4 + 2) 0) (get_or table (n * 4 + 3) 0)) z ∙ sym e
+-- ---- the table's words, four at a time
 
--- an answer and its place
-pub reported : (f : Fault) (answer place : ℕ) → f ≡ fault answer place → (answer ≡ f.answer) × (place ≡ f.place)
-reported f answer place e = (ap (λ (g : Fault). g.answer) (sym e), ap (λ (g : Fault). g.place) (sym e))
+-- word i of the node with number n, of the first nodes
+chunk_word : (nodes : ℕ) (table : List ℕ) (n i : ℕ) → n < nodes → i < 4 → get_or (get_or (first_chunks 4 nodes table) n []) i 0 ≡ word table n i
+chunk_word zero table n i h l = absurd (not-suc-le-zero h)
+chunk_word (suc nodes) table zero i h l =
+    let here : i ≡ 0 * 4 + i = omega arith in
+    get_or-take 4 table i 0 l ∙ ap (λ (k : ℕ). get_or table k 0) here
+chunk_word (suc nodes) table (suc n) i h l =
+    let on : 4 + (n * 4 + i) ≡ suc n * 4 + i = omega arith in
+    chunk_word nodes (drop 4 table) n i (omega arith) l ∙ get_or-drop 4 table (n * 4 + i) 0 ∙ ap (λ (k : ℕ). get_or table k 0) on
+
+-- the words that the code reads are the node's
+pub fault_read : (table text : List ℕ) (n : ℕ) (nodes : List (List ℕ)) → nodes ≡ first_chunks 4 (length table / 4) table → n < length table / 4
+    → fault_at table text n ≡ fault_of text n (get_or (get_or nodes n []) 0 0) (get_or (get_or nodes n []) 1 0) (get_or (get_or nodes n []) 2 0) (get_or (get_or nodes n []) 3 0)
+unfolding fault_at
+fault_read table text n nodes e h =
+    let at : (i : ℕ) → i < 4 → get_or (get_or nodes n []) i 0 ≡ word table n i = λ i l. rw e (chunk_word (length table / 4) table n i h l) in
+    rw (at 0 (omega arith), at 1 (omega arith), at 2 (omega arith), at 3 (omega arith))

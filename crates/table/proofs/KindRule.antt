@@ -9,7 +9,7 @@ use mathlib.Core.List.{List, [], ◌∷◌}
 use lib.ListN.{length}
 use lib.Dec.{eqb}
 use borrow.Author.Tests.{eqb-true}
-use Rattle.table.specs.declared.KindInfo.{KindInfo}
+use Rattle.table.specs.declared.kind.KindInfo.{KindInfo}
 use Rattle.table.specs.Kinds.{kind, kinds, kind_at}
 use Rattle.table.specs.Node.{Node, nil, append, group, flat_alt, nest, hardline, text, annotated, union, align, fail, node_of}
 use Rattle.choice.proofs.Tests.{and-true, all_at}

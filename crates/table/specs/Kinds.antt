@@ -1,7 +1,29 @@
--- The fixed table of document 01: for each kind how many children it has and how many words it uses.
+-- The kinds of document 01: the number of each, and the fixed table of how many children it has and how many words it uses.
 -- Children come first among the words a, b, c, and so do the words used.
-use Rattle.std.specs.Prelude.{List, [], ◌∷◌, ℕ, get_or}
-use Rattle.table.specs.declared.KindInfo.{KindInfo}
+use Rattle.std.specs.Prelude.{List, [], ◌∷◌, ℕ, ◌≤◌, ◌≡◌, get_or, Result, MatchResult}
+use Rattle.table.specs.declared.kind.KindInfo.{KindInfo}
+use Rattle.table.specs.declared.kind.Kind.{Kind}
+use Rattle.table.specs.declared.kind.Kind.TheVariants.{Nil, Append, Group, FlatAlt, Nest, Hardline, Text, Annotated, Union, Align, Fail}
+use Rattle.table.specs.declared.refusal.Refusal.{Refusal}
+use Rattle.table.specs.declared.refusal.Refusal.TheVariants.{BadKind}
+
+-- document 01's number for each kind
+abbrev pub kind_number : Kind → ℕ
+kind_number Nil = 0
+kind_number Append = 1
+kind_number Group = 2
+kind_number FlatAlt = 3
+kind_number Nest = 4
+kind_number Hardline = 5
+kind_number Text = 6
+kind_number Annotated = 7
+kind_number Union = 8
+kind_number Align = 9
+kind_number Fail = 10
+
+-- the kind with this number, or answer 2 where there is none
+abbrev pub Decodes : ℕ → Result Kind Refusal → Type 0
+Decodes word r = MatchResult r (λ kind. kind_number kind ≡ word) (λ why. (why ≡ BadKind) × (11 ≤ word))
 
 abbrev pub kind : ℕ → ℕ → KindInfo
 kind children words = record { children = children; words = words }

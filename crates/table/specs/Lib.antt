@@ -1,4 +1,5 @@
 -- The definitions of the node table, in the order in which they stand on each other.
+pub mod Refusal
 pub mod Kinds
 pub mod Node
 pub mod Fault

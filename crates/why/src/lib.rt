@@ -112,9 +112,8 @@ fn decide(
     if !layout::buffers_right(out.len(), events.len(), work.len(), width, limit) {
         return Answer::Refused(1);
     }
-    let fault = table::validate(table, text);
-    if fault.answer != 0 {
-        return Answer::Refused(fault.answer);
+    if let Err(fault) = table::validate(table, text) {
+        return Answer::Refused(u32::from(fault.why));
     }
     ask(table, text, width, limit, step, out, events, work)
 }

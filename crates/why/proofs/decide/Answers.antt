@@ -2,7 +2,9 @@
 -- Assumes nothing.
 use mathlib.Core.Path.{◌≡◌, sym, ap, ◌∙◌}
 use mathlib.Core.Bool.{true}
-use Rattle.table.specs.Fault.{check}
+use Rattle.table.specs.Fault.{Fault, check}
+use Rattle.table.specs.Refusal.{number}
+use Rattle.table.proofs.Refusals.{number_not-zero}
 use Rattle.rules.specs.Call.{buffers_right}
 use Rattle.rules.specs.Why.{why_refused}
 use Rattle.layout.proofs.Whole.{Lent, asks, start_of}
@@ -14,25 +16,25 @@ returns-then-not-buffers_right c =
     let l : Lent = record { table = c.args.table.now; text = c.args.text.now; width = c.args.width; limit = c.args.limit; out = c.args.out.now; noted = c.args.events.now; area = c.args.work.now } in
     sym (sizes-why (asks l) _ (sym c.buffers_right.ensures ∙ c.if-not-buffers_right.true))
 
-pub returns-then-fault-ne0 : goal.returns-then-fault-ne0
-returns-then-fault-ne0 c =
+pub returns-in-Err : goal.returns-in-Err
+returns-in-Err c =
     let l : Lent = record { table = c.args.table.now; text = c.args.text.now; width = c.args.width; limit = c.args.limit; out = c.args.out.now; noted = c.args.events.now; area = c.args.work.now } in
     -- past the first test the sizes are right
     let right : buffers_right (asks l) ≡ true = sym c.buffers_right.ensures ∙ c.if-not-buffers_right.false in
-    let same = c.validate-fault.ensures.0 in
-    ap why_refused same ∙ sym (fault-why (asks l) _ right (λ z. c.if-fault-ne0.true (same ∙ z)))
+    let same : number c.in-Err.fault.why ≡ (check l.table l.text).answer = ap (λ (f : Fault). f.answer) c.in-Err.ensures in
+    ap why_refused (c.from.ensures ∙ same) ∙ sym (fault-why (asks l) _ right (λ z. number_not-zero c.in-Err.fault.why (same ∙ z)))
 
 pub ask-requires : goal.ask-requires
 ask-requires c =
     let l : Lent = record { table = c.args.table.now; text = c.args.text.now; width = c.args.width; limit = c.args.limit; out = c.args.out.now; noted = c.args.events.now; area = c.args.work.now } in
     let right : buffers_right (asks l) ≡ true = sym c.buffers_right.ensures ∙ c.if-not-buffers_right.false in
     -- past the second the table has no fault
-    let sound : (check l.table l.text).answer ≡ 0 = sym c.validate-fault.ensures.0 ∙ c.if-fault-ne0.false in
+    let sound : (check l.table l.text).answer ≡ 0 = ap (λ (f : Fault). f.answer) (sym c.in_default.ensures) in
     start_of l right sound
 
 pub returns : goal.returns
 returns c =
     let l : Lent = record { table = c.args.table.now; text = c.args.text.now; width = c.args.width; limit = c.args.limit; out = c.args.out.now; noted = c.args.events.now; area = c.args.work.now } in
     let right : buffers_right (asks l) ≡ true = sym c.buffers_right.ensures ∙ c.if-not-buffers_right.false in
-    let sound : (check l.table l.text).answer ≡ 0 = sym c.validate-fault.ensures.0 ∙ c.if-fault-ne0.false in
+    let sound : (check l.table l.text).answer ≡ 0 = ap (λ (f : Fault). f.answer) (sym c.in_default.ensures) in
     c.ask.ensures ∙ sym (run-why (asks l) _ right sound)

@@ -1,7 +1,7 @@
 -- `table::all_kinds` meets its contract: the constant is the specification's table. Assumes nothing.
 use mathlib.Core.Path.{refl}
 use Rattle.table.specs.Kinds.{kinds}
-use Rattle.table.proofs.all_kinds.Goals as goal
+use Rattle.table.proofs.kind.all_kinds.Goals as goal
 
 pub returns : goal.returns
 unfolding kinds
