@@ -11,6 +11,8 @@ use Rattle.rules.specs.Layout.{Mode, flat}
 use Rattle.machine.specs.Fit.{Item, item, walk, say, look, fit, reread}
 use Rattle.waiting.specs.Stack.{stack_of}
 use Rattle.fitting.specs.Fitting.{Fitting, Fitted, Known, Below}
+use Rattle.std.specs.Prelude.{Result}
+use Rattle.table.specs.declared.NodeNo.{NodeNo}
 use Rattle.fitting.specs.declared.Fit.{Fit}
 
 -- a Group is walked through
@@ -72,6 +74,6 @@ row-fitting b f =
       column = f.column;
     }
 
-pub row_fitted : {T w w' : List ℕ} {W x d c left down : ℕ} {r : Fit} → Below T x left down → Fitted T W (x - down) d c (left - down) w r w'
+pub row_fitted : {T w w' : List ℕ} {W x d c left down : ℕ} {r : Result Fit NodeNo} → Below T x left down → Fitted T W (x - down) d c (left - down) w r w'
     → Fitted T W x d c left w r w'
 row_fitted {w = w} {W = W} {d = d} {c = c} b f = record { same = f.same; said = f.said ∙ b.said W c flat (reread (stack_of d w)) }

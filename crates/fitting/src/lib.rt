@@ -12,7 +12,7 @@ ghost use Rattle.table.specs.Sound.{Sound};
 ghost use Rattle.fitting.specs.Fitting.{Stepped, Fitting, Fitted, Known, Below};
 
 use table::{Column, NodeNo};
-use waiting::Mode;
+use waiting::{Mode, Tag};
 
 // Where one visit leads: down to a child, with so many nodes left to walk after it; past the node, at a column; or to a yes or a no.
 #[derive(Clone, Copy)]
@@ -23,12 +23,11 @@ pub enum Step {
     Wide,
 }
 
-// What the fit test says, with the steps left; or the node that is due when none is left.
+// What the fit test says: the mode that the group's child is laid in, with the steps left.
 #[derive(Clone, Copy)]
-pub enum Fit {
-    Yes(u32),
-    No(u32),
-    Due(NodeNo),
+pub struct Fit {
+    pub mode: Mode,
+    pub left: u32,
 }
 
 // A visit. Append, Group, Nest, Align and Annotated are walked through; Union takes its second arm; FlatAlt goes by mode.
@@ -44,7 +43,7 @@ fn look(
     requires node_in_bounds { node.0 * 4 + 4 ≤ length table.now }
     requires sound { Sound 65536 node.0 (node_at table.now node.0) }
     requires in_bounds { (16384 ≤ length work.old) × (count ≤ 1024) × (column.0 ≤ 65536) }
-    ensures { Stepped table.now width node.0 mode.0 count column.0 work.old result work.new }
+    ensures { Stepped table.now width node.0 mode count column.0 work.old result work.new }
 {
     let at = (node.0 as usize) * 4;
     let kind = table[at];
@@ -60,12 +59,14 @@ fn look(
             NodeNo(a),
             count,
         ),
-        table::FLAT_ALT => if mode.0 == 0 {
-            Step::Down(NodeNo(a), count)
-        } else {
-            Step::Down(NodeNo(b), count)
+        table::FLAT_ALT => match mode {
+            Mode::Broken => Step::Down(NodeNo(a), count),
+            Mode::Flat => Step::Down(NodeNo(b), count),
         },
-        table::HARDLINE => if mode.0 == 0 { Step::Fits } else { Step::Wide },
+        table::HARDLINE => match mode {
+            Mode::Broken => Step::Fits,
+            Mode::Flat => Step::Wide,
+        },
         table::TEXT => {
             let end = column.0 + table[at + 3];
             if end <= width {
@@ -101,7 +102,8 @@ fn groups_down(table: &[u32], node: NodeNo, steps: u32) -> u32
     down
 }
 
-// A node, flat; when that is done the waiting nodes in order, all read as broken. Nothing left says yes.
+// A node, flat; when that is done the waiting nodes in order, all read as broken. Nothing left says flat; or the node that is due when no step
+// is left.
 fn walked(
     table: &[u32],
     work: &mut [u32],
@@ -110,20 +112,20 @@ fn walked(
     depth: usize,
     column: Column,
     left: u32,
-) -> Fit
+) -> Result<Fit, NodeNo>
     requires { Fitting table.now work.old width child.0 depth column.0 }
     ensures { Fitted table.now width child.0 depth column.0 left work.old result work.new }
 {
     let mut node = NodeNo(child.0);
-    let mut mode = Mode(1);
+    let mut mode = Mode::Flat;
     let mut count: usize = 0;
     let mut at = depth;
     let mut col = Column(column.0);
     let mut steps = left;
-    let fits: bool = 'waiting: loop {
+    let goes = 'waiting: loop {
         'down: loop {
             if steps == 0 {
-                return Fit::Due(node);
+                return Err(node);
             }
             steps -= 1;
             match look(table, work, width, node, mode, count, col) {
@@ -139,26 +141,24 @@ fn walked(
                     count -= 1;
                     node = waiting::fit_node(work, count);
                 }
-                Step::Fits => break 'waiting true,
-                Step::Wide => break 'waiting false,
+                Step::Fits => break 'waiting Mode::Flat,
+                Step::Wide => break 'waiting Mode::Broken,
             }
         }
-        let next = waiting::nearest(work, at, waiting::NODE);
-        if next == 0 {
-            break 'waiting true;
-        }
-        at = next - 1;
+        let Some(next) = waiting::nearest(work, at, Tag::Node) else {
+            break 'waiting Mode::Flat;
+        };
+        at = next;
         node = waiting::node_at(work, at);
-        mode = Mode(0);
+        mode = Mode::Broken;
     };
-    if fits {
-        Fit::Yes(steps)
-    } else {
-        Fit::No(steps)
-    }
+    Ok(Fit {
+        mode: goes,
+        left: steps,
+    })
 }
 
-// Whether a group's child fits, read flat, with what waits after it.
+// Whether a group's child fits, read flat, with what waits after it: then it goes flat, else broken. Or the node that is due when no step is left.
 pub fn fitting(
     table: &[u32],
     work: &mut [u32],
@@ -167,7 +167,7 @@ pub fn fitting(
     depth: usize,
     column: Column,
     left: u32,
-) -> Fit
+) -> Result<Fit, NodeNo>
     requires { Fitting table.now work.old width child.0 depth column.0 }
     ensures { Fitted table.now width child.0 depth column.0 left work.old result work.new }
 {

@@ -1,6 +1,6 @@
 -- A page of the code and the rules' page, over plain variables:
 --     taken_is                     the room that a page takes
---     written-full, written_on     bytes that don't fit, and bytes that were put behind those used
+--     written_on                   bytes that were put behind those used
 --     noted-full, noted-on         an event with no record left for it, and one that was stored
 --     on-says, full-says           what an answer says of the test and of the page
 --     noted-counts                 the counts of a page with one event more
@@ -12,10 +12,11 @@ use Prim.Native.Nat.{ℕ, suc, ◌+◌, ◌*◌, ◌/◌, ◌≤◌, ◌<◌}
 use native.Mathlib.Omega.{arith}
 use mathlib.Core.Bool.{Bool, true, false}
 use mathlib.Core.List.{List, ◌∷◌, ◌++◌}
-use lib.ListN.{length, take, drop, replicate, length-take, length-drop, length-append, length-replicate, length-set}
+use Rattle.std.specs.Prelude.{Option, Some, None}
+use lib.ListN.{length, take, replicate, length-append, length-replicate, length-set}
 use lib.Seq.{length-take-le, take-take, take-append-le}
 use lib.Dec.{leb, ltb}
-use borrow.Author.Tests.{le-leb, lt-leb, lt-ltb, le-ltb}
+use borrow.Author.Tests.{le-leb, lt-ltb, le-ltb}
 use Rattle.choice.specs.Pick.{pick}
 use Rattle.buffer.specs.Run as run
 use Rattle.buffer.proofs.Put.{take_put}
@@ -25,8 +26,6 @@ use Rattle.rules.specs.Layout as rules
 use Rattle.page.specs.Reading.{events_of, page_of, takes, Within, Before}
 use Rattle.page.specs.Putting.{on, full, answer_of, Written, Noted, cut_to}
 use Rattle.page.specs.declared.Page.{Page}
-use Rattle.page.specs.declared.Put.{Put}
-use Rattle.page.specs.declared.Put.TheVariants.{On, Full}
 use Rattle.page.proofs.Events.{length-events, events-front, events-kept, events-more, stored}
 
 pub taken_is : (p : Page) (out ev : List ℕ) → takes p ≤ length out → taken (page_of p out ev) ≡ takes p
@@ -43,18 +42,10 @@ module _ (p : Page) (out bs : List ℕ) (n : ℕ) (column : rules.Page → ℕ) 
   taken-added : (ev : List ℕ) → taken (added column bs (page_of p out ev)) ≡ p.used + n
   taken-added ev = length-append (take p.used out) bs ∙ rw (length-take-le p.used out fits, size)
 
-  pub written-full : length out < p.used + n → Written p out Full out (added column bs)
-  written-full lt =
-      record {
-        answer = λ ev. sym (rw (taken-added ev, lt-leb (p.used + n) (length out) lt));
-        within = λ ev in_p. tt;
-        kept = refl;
-      }
-
   -- k is the column and u the bytes used afterwards
   pub written_on : (out' : List ℕ) (k u : ℕ) → p.used + n ≤ length out → take (p.used + n) out' ≡ take p.used out ++ bs → length out' ≡ length out
       → ((ev : List ℕ) → k ≡ column (page_of p out ev)) → u ≡ p.used + n
-      → Written p out (On (record { column = record { 0 = k }; used = u; events = p.events })) out' (added column bs)
+      → Written p out (Some (record { column = record { 0 = k }; used = u; events = p.events })) out' (added column bs)
   written_on out' k u enough e long ek eu =
       let t : take u out' ≡ take p.used out ++ bs = rw eu e in
       let front : length (take p.used out) ≡ p.used = length-take-le p.used out fits in
@@ -67,10 +58,6 @@ module _ (p : Page) (out bs : List ℕ) (n : ℕ) (column : rules.Page → ℕ) 
             ∙ take-take p.used p.used out (omega arith);
       }
 
--- a part of a text
-pub part-size : (text : List ℕ) (from len : ℕ) → from + len ≤ length text → length (take len (drop from text)) ≡ len
-part-size text from len fits = simp (length-take, length-drop) (omega arith)
-
 -- byte 10 and i blanks
 pub line-size : (i : ℕ) → length {A = ℕ} (10 ∷ replicate i 32) ≡ suc i
 line-size i = ap suc (length-replicate i 32)
@@ -82,7 +69,7 @@ line-put out out' at i fits e = ap (take (at + suc i)) e ∙ take_put out at (10
 -- ---- events
 
 module _ (p : Page) (ev : List ℕ) (mark label : ℕ) where
-  pub noted-full : length ev / event_words ≤ p.events → Noted p ev Full ev (marked mark label)
+  pub noted-full : length ev / event_words ≤ p.events → Noted p ev None ev (marked mark label)
   noted-full none =
       record {
         answer = λ out in_p. sym (rw (length-events p.events ev, le-ltb p.events (length ev / event_words) none));
@@ -91,7 +78,7 @@ module _ (p : Page) (ev : List ℕ) (mark label : ℕ) where
       }
 
   pub noted-on : p.events * event_words + event_words ≤ length ev
-      → Noted p ev (On (record { column = p.column; used = p.used; events = p.events + 1 })) (stored ev (p.events * event_words) p.used mark label) (marked mark label)
+      → Noted p ev (Some (record { column = p.column; used = p.used; events = p.events + 1 })) (stored ev (p.events * event_words) p.used mark label) (marked mark label)
   noted-on one_left =
       let fits : p.events < length ev / event_words = omega arith in
       record {
@@ -111,24 +98,24 @@ pub full-says : (q : rules.Page) (fits : Bool) → full ≡ pick fits (on q) ful
 full-says q true e = let z : ◌≡◌ {A = ℕ} 0 1 = cc in absurd (omega arith)
 full-says q false e = refl
 
-module _ {p : Page} {out out' : List ℕ} {r : Put} {grown : rules.Page → rules.Page} (w : Written p out r out' grown) where
-  pub written-full-says : r ≡ Full → (ev : List ℕ) → leb (taken (grown (page_of p out ev))) (length out) ≡ false
-  written-full-says e ev = full-says _ _ (sym (ap (λ (x : Put). answer_of x out' ev) e) ∙ w.answer ev)
+module _ {p : Page} {out out' : List ℕ} {r : Option Page} {grown : rules.Page → rules.Page} (w : Written p out r out' grown) where
+  pub written-full-says : r ≡ None → (ev : List ℕ) → leb (taken (grown (page_of p out ev))) (length out) ≡ false
+  written-full-says e ev = full-says _ _ (sym (ap (λ (x : Option Page). answer_of x out' ev) e) ∙ w.answer ev)
 
-  pub written-on-says : (q : Page) → r ≡ On q → (ev : List ℕ)
+  pub written-on-says : (q : Page) → r ≡ Some q → (ev : List ℕ)
       → (leb (taken (grown (page_of p out ev))) (length out) ≡ true) × (page_of q out' ev ≡ grown (page_of p out ev))
-  written-on-says q e ev = on-says _ (sym (ap (λ (x : Put). answer_of x out' ev) e) ∙ w.answer ev)
+  written-on-says q e ev = on-says _ (sym (ap (λ (x : Option Page). answer_of x out' ev) e) ∙ w.answer ev)
 
-module _ {p : Page} {ev ev' : List ℕ} {r : Put} {grown : rules.Page → rules.Page} (n : Noted p ev r ev' grown) (out : List ℕ) (in_p : Within p out ev) where
-  pub noted-full-says : r ≡ Full → ltb (length (page_of p out ev).events) (length ev / event_words) ≡ false
-  noted-full-says e = full-says _ _ (sym (ap (λ (x : Put). answer_of x out ev') e) ∙ n.answer out in_p)
+module _ {p : Page} {ev ev' : List ℕ} {r : Option Page} {grown : rules.Page → rules.Page} (n : Noted p ev r ev' grown) (out : List ℕ) (in_p : Within p out ev) where
+  pub noted-full-says : r ≡ None → ltb (length (page_of p out ev).events) (length ev / event_words) ≡ false
+  noted-full-says e = full-says _ _ (sym (ap (λ (x : Option Page). answer_of x out ev') e) ∙ n.answer out in_p)
 
-  pub noted-on-says : (q : Page) → r ≡ On q
+  pub noted-on-says : (q : Page) → r ≡ Some q
       → (ltb (length (page_of p out ev).events) (length ev / event_words) ≡ true) × (page_of q out ev' ≡ grown (page_of p out ev))
-  noted-on-says q e = on-says _ (sym (ap (λ (x : Put). answer_of x out ev') e) ∙ n.answer out in_p)
+  noted-on-says q e = on-says _ (sym (ap (λ (x : Option Page). answer_of x out ev') e) ∙ n.answer out in_p)
 
 -- what an event counts
-pub noted-counts : {p q : Page} {ev ev' : List ℕ} {mark label : ℕ} → Noted p ev (On q) ev' (marked mark label) → p.events * event_words ≤ length ev
+pub noted-counts : {p q : Page} {ev ev' : List ℕ} {mark label : ℕ} → Noted p ev (Some q) ev' (marked mark label) → p.events * event_words ≤ length ev
     → (q.used ≡ p.used) × (q.events ≡ p.events + 1) × (q.events * event_words ≤ length ev')
 noted-counts {p} {q} {ev} {ev'} n enough =
     let out : List ℕ = replicate p.used 0 in

@@ -1,36 +1,34 @@
 -- What the functions promise: the whole answer, by the rules' page, and that what was on the page before is kept.
-use Rattle.std.specs.Prelude.{◌≡◌, ℕ, ◌/◌, List, length, take, leb, ltb}
+use Rattle.std.specs.Prelude.{◌≡◌, ℕ, ◌/◌, List, length, take, leb, ltb, Option, Some, None}
 use Rattle.choice.specs.Pick.{pick}
 use Rattle.rules.specs.Call.{event_words}
 use Rattle.rules.specs.Layout.{taken}
 use Rattle.rules.specs.Layout as rules
 use Rattle.page.specs.Reading.{events_of, page_of, Within, Before}
 use Rattle.page.specs.declared.Page.{Page}
-use Rattle.page.specs.declared.Put.{Put}
-use Rattle.page.specs.declared.Put.TheVariants.{On, Full}
 
 -- an answer by the rules' pages: the page with what was put on it, or there is no room
 pub data Answer : Type 0 where
   on : rules.Page → Answer
   full : Answer
 
-abbrev pub answer_of : Put → List ℕ → List ℕ → Answer
-answer_of (On p) out ev = on (page_of p out ev)
-answer_of Full out ev = full
+abbrev pub answer_of : Option Page → List ℕ → List ℕ → Answer
+answer_of (Some p) out ev = on (page_of p out ev)
+answer_of None out ev = full
 
-abbrev pub PutWithin : Put → List ℕ → List ℕ → Type 0
-PutWithin (On p) out ev = Within p out ev
-PutWithin Full out ev = Unit {0}
+abbrev pub PutWithin : Option Page → List ℕ → List ℕ → Type 0
+PutWithin (Some p) out ev = Within p out ev
+PutWithin None out ev = Unit {0}
 
 -- Bytes go onto the page p: `grown` says which page that makes. It fits exactly if the room that it takes is at most the output's. The bytes
 -- before are kept, whatever is answered.
-pub record Written (p : Page) (out : List ℕ) (r : Put) (out' : List ℕ) (grown : rules.Page → rules.Page) : Type 0 where
+pub record Written (p : Page) (out : List ℕ) (r : Option Page) (out' : List ℕ) (grown : rules.Page → rules.Page) : Type 0 where
   pub answer : (ev : List ℕ) → answer_of r out' ev ≡ pick (leb (taken (grown (page_of p out ev))) (length out)) (on (grown (page_of p out ev))) full
   pub within : (ev : List ℕ) → Within p out ev → PutWithin r out' ev
   pub kept : take p.used out' ≡ take p.used out
 
 -- An event goes onto the page p. It fits exactly if a record is left. The events before are kept, whatever is answered.
-pub record Noted (p : Page) (ev : List ℕ) (r : Put) (ev' : List ℕ) (grown : rules.Page → rules.Page) : Type 0 where
+pub record Noted (p : Page) (ev : List ℕ) (r : Option Page) (ev' : List ℕ) (grown : rules.Page → rules.Page) : Type 0 where
   pub answer : (out : List ℕ) → Within p out ev
       → answer_of r out ev' ≡ pick (ltb (length (page_of p out ev).events) (length ev / event_words)) (on (grown (page_of p out ev))) full
   pub within : (out : List ℕ) → Within p out ev → PutWithin r out ev'

@@ -24,15 +24,15 @@ pub struct Page {
     pub events: usize,
 }
 
-// The page with what was put on it; or there is no room for that.
-#[derive(Clone, Copy)]
-pub enum Put {
-    On(Page),
-    Full,
-}
-
-// A text is written whole; the column grows by its columns.
-pub fn write_text(text: &[u8], from: u32, len: u32, columns: u32, out: &mut [u8], page: Page) -> Put
+// A text is written whole, and the column grows by its columns; or there is no room for it.
+pub fn write_text(
+    text: &[u8],
+    from: u32,
+    len: u32,
+    columns: u32,
+    out: &mut [u8],
+    page: Page,
+) -> Option<Page>
     requires len_in_bounds { (from + len ≤ length text.now) × (length text.now ≤ 65536) × (columns ≤ 65536) }
     requires column_bound { (page.column.0 ≤ 65536) × (page.used ≤ length out.old) × (length out.old ≤ 65536) }
     ensures { Written page out.old result out.new
@@ -40,58 +40,54 @@ pub fn write_text(text: &[u8], from: u32, len: u32, columns: u32, out: &mut [u8]
 {
     let n = len as usize;
     if out.len() - page.used < n {
-        return Put::Full;
+        return None;
     }
     buffer::copy_over(text, from as usize, n, out, page.used);
-    Put::On(Page {
+    Some(Page {
         column: Column(page.column.0 + columns),
         used: page.used + n,
-        events: page.events,
+        ..page
     })
 }
 
-// Byte 10 and blanks to an indentation; that becomes the column.
-pub fn feed_line(out: &mut [u8], page: Page, indent: Indent) -> Put
+// Byte 10 and blanks to an indentation, which becomes the column; or there is no room for them.
+pub fn feed_line(out: &mut [u8], page: Page, indent: Indent) -> Option<Page>
     requires { (page.used ≤ length out.old) × (length out.old ≤ 65536) }
     ensures { Written page out.old result out.new (fed indent.0) }
 {
     let blanks = indent.0 as usize;
     if out.len() - page.used <= blanks {
-        return Put::Full;
+        return None;
     }
     buffer::newline(out, page.used, blanks);
-    Put::On(Page {
+    Some(Page {
         column: indent.to_column(),
         used: page.used + 1 + blanks,
-        events: page.events,
+        ..page
     })
 }
 
-// One event more, open (1) or close (0) with a label; its offset is the number of bytes before it.
-pub fn note_event(events: &mut [u32], page: Page, mark: u32, label: u32) -> Put
+// One event more, open (1) or close (0) with a label, its offset the number of bytes before it; or there is no room for it.
+pub fn note_event(events: &mut [u32], page: Page, mark: u32, label: u32) -> Option<Page>
     requires { (page.events * event_words ≤ length events.old) × (length events.old / event_words ≤ 4096) × (page.used ≤ 65536) }
     ensures { Noted page events.old result events.new (marked mark label) }
 {
     let at = page.events * EVENT_WORDS;
     if events.len() - at < EVENT_WORDS {
-        return Put::Full;
+        return None;
     }
     events[at] = page.used as u32;
     events[at + 1] = mark;
     events[at + 2] = label;
-    let mut next = page;
-    next.events = page.events + 1;
-    Put::On(next)
+    Some(Page {
+        events: page.events + 1,
+        ..page
+    })
 }
 
 // A trial is given up: the page is as it was saved before it. The trial's bytes and events stay behind what is used.
 pub fn put_back(page: Page, saved: Page) -> Page
     ensures { PutBack page saved result }
 {
-    let column = saved.column;
-    Page {
-        column,
-        used: saved.used,
-        events: saved.events,
-    }
+    saved
 }

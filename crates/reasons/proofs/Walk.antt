@@ -21,9 +21,12 @@ use Rattle.rules.specs.Why as why
 use Rattle.rules.specs.Why.{through, found, then_meets, or_else, first_in, first_after}
 use Rattle.machine.specs.Waiting.{Entry, node, trial, closing, waiting}
 use Rattle.machine.specs.Well.{Nodes}
-use Rattle.waiting.specs.Stack.{stack_of, Nearest, from}
-use Rattle.waiting.specs.Area.{number_at}
-use Rattle.waiting.proofs.Laws.{node-top, from-nodes}
+use Rattle.std.specs.Prelude.{Option, Some, None}
+use Rattle.waiting.specs.declared.Tag.TheVariants.{Node}
+use Rattle.waiting.specs.Stack.{stack_of, reached, Nearest, from}
+use Rattle.waiting.specs.Area.{number_at, indent_at, mode_at, mode_in}
+use Rattle.waiting.specs.Stack.{mode_of}
+use Rattle.waiting.proofs.Laws.{node_up, from-nodes}
 use Rattle.summary.specs.Promise as summary
 use Rattle.summary.specs.Promise.{Leads, met_of}
 use Rattle.summary.specs.declared.Reason.{Reason}
@@ -116,32 +119,39 @@ module _ {T w : List ℕ} {d c W N : ℕ} (h : Met T w d c W N) where
   through-small : (n : ℕ) (f : Bool) (end : Column) → Leads T n f c W (met_of (Ok end)) → end.0 ≤ 65536
   through-small n f end g = subst (Under 65536) (sym (g [])) (under W 65536 h.width (tree T [] n) (mode_if f) c h.column)
 
-  module _ {r : ℕ} (e : Nearest w d 0 r) where
-    same-list : (bytes : List ℕ) → waiting (tree T bytes) (stack_of r w) ≡ waiting (tree T bytes) (stack_of d w)
+  module _ {r : Option ℕ} (e : Nearest w d Node r) where
+    same-list : (bytes : List ℕ) → waiting (tree T bytes) (stack_of (reached r) w) ≡ waiting (tree T bytes) (stack_of d w)
     same-list bytes = ap (waiting (tree T bytes)) (sym e.found) ∙ from-waiting (tree T bytes) (stack_of d w)
 
     -- nothing waits
-    pub nothing_waits : r ≡ 0 → After T w d c W NothingLeft
+    pub nothing_waits : r ≡ None → After T w d c W NothingLeft
     unfolding waiting first_after
     nothing_waits z bytes =
-        ap (λ ws. first_after W ws c) (subst (λ r. waiting (tree T bytes) (stack_of r w) ≡ waiting (tree T bytes) (stack_of d w)) z (same-list bytes))
+        ap (λ ws. first_after W ws c) (subst (λ r. waiting (tree T bytes) (stack_of (reached r) w) ≡ waiting (tree T bytes) (stack_of d w)) z (same-list bytes))
 
-    module _ (some : r ≡ 0 → ⊥) where
+    module _ (i : ℕ) (here : r ≡ Some i) where
+      abbrev top : Entry
+      top = node (number_at w i) (indent_at w i) (mode_of (mode_in (mode_at w i)))
+
+      next-list : stack_of (reached r) w ≡ top ∷ stack_of i w
+      next-list = rw here (node_up w i (e.tagged i here))
+
       -- the next waiting node, and what waits below it
-      next-nodes : (number_at w (r - 1) < N) × Nodes N (stack_of (r - 1) w)
-      next-nodes =
-          subst (Nodes N) (sym e.found ∙ e.found ∙ node-top w r (omega arith) (e.tagged (omega arith)))
-          (subst (Nodes N) e.found (from-nodes N (stack_of d w) h.nodes))
+      next-nodes : (number_at w i < N) × Nodes N (stack_of i w)
+      next-nodes = subst (Nodes N) next-list (subst (Nodes N) e.found (from-nodes N (stack_of d w) h.nodes))
 
-      pub next_small : number_at w (r - 1) < N
+      pub next-below : i < d
+      next-below = rw here at e.within
+
+      pub next_small : number_at w i < N
       next_small = next-nodes.0
 
       reads-next : (bytes : List ℕ)
           → first_after W (waiting (tree T bytes) (stack_of d w)) c
-          ≡ or_else (first_in W (tree T bytes (number_at w (r - 1))) broken c) (λ c. first_after W (waiting (tree T bytes) (stack_of (r - 1) w)) c)
+          ≡ or_else (first_in W (tree T bytes (number_at w i)) broken c) (λ c. first_after W (waiting (tree T bytes) (stack_of i w)) c)
       unfolding waiting first_after
       reads-next bytes =
-          ap (λ ws. first_after W ws c) (sym (same-list bytes) ∙ ap (waiting (tree T bytes)) (node-top w r (omega arith) (e.tagged (omega arith))))
+          ap (λ ws. first_after W ws c) (sym (same-list bytes) ∙ ap (waiting (tree T bytes)) next-list)
 
 -- ---- from one waiting node to the next
 
@@ -150,21 +160,21 @@ pub record Walking (T w : List ℕ) (W N d₀ c₀ d c : ℕ) : Type 0 where
   pub met : Met T w d c W N
   pub same : (bytes : List ℕ) → first_after W (waiting (tree T bytes) (stack_of d w)) c ≡ first_after W (waiting (tree T bytes) (stack_of d₀ w)) c₀
 
-module _ {T w : List ℕ} {W N d₀ c₀ d c : ℕ} (h : Walking T w W N d₀ c₀ d c) {r : ℕ} (e : Nearest w d 0 r) where
-  pub walk-nothing : r ≡ 0 → After T w d₀ c₀ W NothingLeft
+module _ {T w : List ℕ} {W N d₀ c₀ d c : ℕ} (h : Walking T w W N d₀ c₀ d c) {r : Option ℕ} (e : Nearest w d Node r) where
+  pub walk-nothing : r ≡ None → After T w d₀ c₀ W NothingLeft
   walk-nothing z bytes = nothing_waits h.met e z bytes ∙ h.same bytes
 
-  module _ (some : r ≡ 0 → ⊥) (n : ℕ) (at : n ≡ number_at w (r - 1)) (v : Result Column Reason) (g : Leads T n false c W (met_of v)) where
-    leads : (bytes : List ℕ) → met_of v ≡ first_in W (tree T bytes (number_at w (r - 1))) broken c
+  module _ (i : ℕ) (here : r ≡ Some i) (n : ℕ) (at : n ≡ number_at w i) (v : Result Column Reason) (g : Leads T n false c W (met_of v)) where
+    leads : (bytes : List ℕ) → met_of v ≡ first_in W (tree T bytes (number_at w i)) broken c
     leads bytes = g bytes ∙ ap (λ n. first_in W (tree T bytes n) broken c) at
 
     pub walk-found : (x : Reason) → v ≡ Err x → After T w d₀ c₀ W x
     walk-found x q bytes =
-        ap (λ y. or_else y (λ c. first_after W (waiting (tree T bytes) (stack_of (r - 1) w)) c)) (ap met_of (sym q) ∙ leads bytes)
-        ∙ sym (reads-next h.met e some bytes)
+        ap (λ y. or_else y (λ c. first_after W (waiting (tree T bytes) (stack_of i w)) c)) (ap met_of (sym q) ∙ leads bytes)
+        ∙ sym (reads-next h.met e i here bytes)
         ∙ h.same bytes
 
-    pub walk-on : (end : Column) → v ≡ Ok end → Walking T w W N d₀ c₀ (r - 1) end.0
+    pub walk-on : (end : Column) → v ≡ Ok end → Walking T w W N d₀ c₀ i end.0
     walk-on end q =
         let m = h.met in
         record {
@@ -172,14 +182,14 @@ module _ {T w : List ℕ} {W N d₀ c₀ d c : ℕ} (h : Walking T w W N d₀ c�
               record {
                 lent = m.lent;
                 summed = m.summed;
-                depth = omega (arith, m.depth, e.within);
-                nodes = (next-nodes m e some).1;
+                depth = omega (arith, m.depth, next-below m e i here);
+                nodes = (next-nodes m e i here).1;
                 column = through-small m n false end (subst (λ v. Leads T n false c W (met_of v)) q g);
                 width = m.width;
               };
           same = λ bytes.
-              ap (λ y. or_else y (λ c. first_after W (waiting (tree T bytes) (stack_of (r - 1) w)) c)) (ap met_of (sym q) ∙ leads bytes)
-              ∙ sym (reads-next m e some bytes)
+              ap (λ y. or_else y (λ c. first_after W (waiting (tree T bytes) (stack_of i w)) c)) (ap met_of (sym q) ∙ leads bytes)
+              ∙ sym (reads-next m e i here bytes)
               ∙ h.same bytes;
         }
 

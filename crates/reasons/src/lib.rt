@@ -11,6 +11,7 @@ ghost use Rattle.reasons.specs.Promise.{Lent, Filled, Met, Asked, After, Because
 
 use summary::Reason;
 use table::{Column, NodeNo};
+use waiting::Tag;
 
 // Where the summaries start.
 const MEMO: usize = 12288;
@@ -31,11 +32,10 @@ fn after(table: &[u32], work: &[u32], depth: usize, column: Column, width: u32) 
     let mut d = depth;
     let mut end = column;
     loop {
-        let next = waiting::nearest(work, d, waiting::NODE);
-        if next == 0 {
+        let Some(next) = waiting::nearest(work, d, Tag::Node) else {
             return Reason::NothingLeft;
-        }
-        d = next - 1;
+        };
+        d = next;
         let node = waiting::node_at(work, d);
         match summary::first_reason(table, &work[MEMO..], node, false, end, width) {
             Ok(reached) => end = reached,

@@ -90,8 +90,8 @@ module _ {T : List ℕ} {h : Due} (f : Held T h) (kind : get_or T (h.node.0 * 4)
           more = suc c.more;
           said = λ E p o w table.
               again-more E c.more (on p steps o (top start ∷ w)) ∙ ap (again E 1) (c.said E p o w table) ∙ ap (λ (k : ℕ). again E 1 (on p k o (top h ∷ w))) e
-              ∙ nest-turn E p (left - 1) o n (n - 1) (get_or T (n * 4 + 2) 0) h.indent.0 (way_of (get_or T (n * 4 + 3) 0)) (mode_of h.mode.0) w (ap (λ (t : List ℕ). node_at t n) table ∙ node-is T n 4 kind ∙ ap (λ (x : ℕ). nest x (get_or T (n * 4 + 2) 0) (way_of (get_or T (n * 4 + 3) 0))) a)
-              ∙ ap (λ (x : ℕ). on p (left - 1) o (node (n - 1) x (mode_of h.mode.0) ∷ w)) (sym ei);
+              ∙ nest-turn E p (left - 1) o n (n - 1) (get_or T (n * 4 + 2) 0) h.indent.0 (way_of (get_or T (n * 4 + 3) 0)) (mode_of h.mode) w (ap (λ (t : List ℕ). node_at t n) table ∙ node-is T n 4 kind ∙ ap (λ (x : ℕ). nest x (get_or T (n * 4 + 2) 0) (way_of (get_or T (n * 4 + 3) 0))) a)
+              ∙ ap (λ (x : ℕ). on p (left - 1) o (node (n - 1) x (mode_of h.mode) ∷ w)) (sym ei);
         }
 
     pub falls-next : {steps left : ℕ} {start : Due} → Falling T steps start left h → 0 < left → Falling T steps start (left - 1) lower

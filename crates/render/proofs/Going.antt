@@ -4,12 +4,15 @@ use mathlib.Core.Path.{◌≡◌, refl, sym, ap, subst, ◌∙◌}
 use Prim.Native.Nat.{ℕ, suc, zero, ◌+◌, ◌-◌, ◌*◌, ◌≤◌, ◌<◌}
 use native.Mathlib.Omega.{arith}
 use mathlib.Core.Bool.{Bool, true, false}
+use Rattle.std.specs.Prelude.{Result, Ok, Err}
 use mathlib.Core.List.{List, [], ◌∷◌}
 use lib.ListN.{length}
 use lib.Dec.{ltb}
 use Rattle.choice.specs.Pick.{pick}
 use Rattle.table.specs.Sound.{AllSound}
-use Rattle.table.specs.declared.NodeNo.{NodeNo}
+use Rattle.table.specs.declared.refusal.Refusal.TheVariants.{NoSteps}
+use Rattle.table.specs.Refusal.{number}
+use Rattle.waiting.specs.declared.Mode.TheVariants.{Broken}
 use Rattle.rules.specs.Layout.{Page, Report, marked}
 use Rattle.machine.specs.Waiting.{Entry, node, trial, closing}
 use Rattle.machine.specs.Turn.{Env, Turned, on, stop, turn, run, layout, ended}
@@ -17,7 +20,7 @@ use Rattle.machine.specs.Well.{Well, weight}
 use Rattle.machine.specs.Reached.{Reached, Stops}
 use Rattle.machine.proofs.Kept.{Next, turn-next, nodes_of}
 use Rattle.waiting.specs.Area.{due_of}
-use Rattle.waiting.specs.Stack.{flag_of, top, stack_of}
+use Rattle.waiting.specs.Stack.{top, stack_of}
 use Rattle.waiting.specs.declared.Due.{Due}
 use Rattle.waiting.proofs.Laws.{length-stack}
 use Rattle.page.specs.Reading.{events_of, page_of, Within}
@@ -26,7 +29,8 @@ use Rattle.page.proofs.Pages.{taken_is}
 use Rattle.lay.specs.Turning.{turned_of}
 use Rattle.lay.specs.declared.State.{State}
 use Rattle.lay.specs.declared.Turn.{Turn}
-use Rattle.lay.specs.declared.Turn.TheVariants.{Go, Done, Stop}
+use Rattle.lay.specs.declared.Turn.TheVariants.{Go, Done}
+use Rattle.lay.specs.declared.Stopped.{Stopped}
 use Rattle.render.specs.Visit.{Start, Ready, env_of, again}
 use Rattle.render.specs.TakeUp.{take_up, up_from, TurnedUp}
 use Rattle.render.specs.Best.{Laid, end_of, RanTo}
@@ -128,11 +132,11 @@ module _ (T tx : List ℕ) (W limit N : ℕ) where
     pub left : s.left ≤ limit
     pub turns : ℕ
     pub enough : 3 * s.left + weight (top h ∷ stack_of s.depth w) < turns
-    pub reached : Reached (E out ev) (N - 1) (page_of s.page out ev) s.left (flag_of s.past) (top h ∷ stack_of s.depth w)
-    pub said : run (E out ev) turns (page_of s.page out ev) s.left (flag_of s.past) (top h ∷ stack_of s.depth w) ≡ layout (E out₀ ev₀) (N - 1)
+    pub reached : Reached (E out ev) (N - 1) (page_of s.page out ev) s.left s.past (top h ∷ stack_of s.depth w)
+    pub said : run (E out ev) turns (page_of s.page out ev) s.left s.past (top h ∷ stack_of s.depth w) ≡ layout (E out₀ ev₀) (N - 1)
 
   pub going_start : (out ev w : List ℕ) → Start T tx out ev w W N
-      → Going out ev w out ev w (due_of (N - 1) 0 0) (record { page = record { column = record { 0 = 0 }; used = 0; events = 0 }; left = limit; past = 0; depth = 0 })
+      → Going out ev w out ev w (due_of (N - 1) 0 Broken) (record { page = record { column = record { 0 = 0 }; used = 0; events = 0 }; left = limit; past = false; depth = 0 })
   unfolding layout events_of
   going_start out ev w h =
       record {
@@ -164,7 +168,7 @@ module _ {T tx : List ℕ} {W limit N : ℕ} {out₀ ev₀ w₀ out ev w : List 
   here = E T tx W limit N out ev
 
   -- a node is due with no step left
-  laid-due : s.left ≡ 0 → Laid T tx out₀ ev₀ W limit N (record { answer = 7; place = h.node; left = 0; used = 0; events = 0 }) out ev
+  laid-due : s.left ≡ 0 → Laid T tx out₀ ev₀ W limit N (Err (record { why = NoSteps; place = h.node; left = 0 })) out ev
   unfolding run turn events_of
   laid-due e =
       let f : g.turns ≡ suc (g.turns - 1) = omega (arith, g.enough) in
@@ -177,7 +181,7 @@ module _ {T tx : List ℕ} {W limit N : ℕ} {out₀ ev₀ w₀ out ev w : List 
         laid = laid-due e;
         ends =
             record {
-              reached = rw (← g.outs, ← g.evs) (subst (λ k. Reached here (N - 1) (page_of s.page out ev) k (flag_of s.past) (top h ∷ stack_of s.depth w)) e g.reached);
+              reached = rw (← g.outs, ← g.evs) (subst (λ k. Reached here (N - 1) (page_of s.page out ev) k s.past (top h ∷ stack_of s.depth w)) e g.reached);
               node = omega (arith, g.well.stack.0.number);
               column = omega (arith, t, g.well.column, g.within.bytes, g.start.room);
               depth = omega (arith, g.well.stack.0.number, length-stack s.depth w, g.start.small);
@@ -201,25 +205,25 @@ module _ {T tx : List ℕ} {W limit N : ℕ} {out₀ ev₀ w₀ out ev w : List 
           stack = rw (t, length-events s.page.events ev) at g.well.stack;
         }
 
-    module _ {r : Turn} {out' ev' w' : List ℕ} (p : TurnedUp T tx out ev w W s₁ h r out' ev' w') (eo : length out' ≡ length out) (ee : length ev' ≡ length ev) (ew : length w' ≡ length w) where
+    module _ {r : Result Turn Stopped} {out' ev' w' : List ℕ} (p : TurnedUp T tx out ev w W s₁ h r out' ev' w') (eo : length out' ≡ length out) (ee : length ev' ≡ length ev) (ew : length w' ≡ length w) where
       -- where the turn leads, the run goes on
       reach : Reaches here N g.start.valid s.left (3 * s.left + weight (top h ∷ stack_of s.depth w)) whole (turned_of r out' ev' w')
       unfolding turn
       reach =
           let f : s.left ≡ suc (s.left - 1) = omega arith in
-          let t : Reaches here N g.start.valid (suc (s.left - 1)) (3 * suc (s.left - 1) + weight (top h ∷ stack_of s.depth w)) (run here g.turns (page_of s.page out ev) (suc (s.left - 1)) (flag_of s.past) (top h ∷ stack_of s.depth w)) (turned_of r out' ev' w') =
-          rw (p.turning limit).same (run_on here N g.start.valid g.turns (page_of s.page out ev) (suc (s.left - 1)) (flag_of s.past) (top h) (stack_of s.depth w) p.more g.well (omega (arith, g.enough))) in
-          reaches-from here N g.start.valid (suc (s.left - 1)) s.left _ _ _ _ (turned_of r out' ev' w') (omega arith) (omega arith) (sym g.said ∙ ap (λ (k : ℕ). run here g.turns (page_of s.page out ev) k (flag_of s.past) (top h ∷ stack_of s.depth w)) f) t
+          let t : Reaches here N g.start.valid (suc (s.left - 1)) (3 * suc (s.left - 1) + weight (top h ∷ stack_of s.depth w)) (run here g.turns (page_of s.page out ev) (suc (s.left - 1)) s.past (top h ∷ stack_of s.depth w)) (turned_of r out' ev' w') =
+          rw (p.turning limit).same (run_on here N g.start.valid g.turns (page_of s.page out ev) (suc (s.left - 1)) s.past (top h) (stack_of s.depth w) p.more g.well (omega (arith, g.enough))) in
+          reaches-from here N g.start.valid (suc (s.left - 1)) s.left _ _ _ _ (turned_of r out' ev' w') (omega arith) (omega arith) (sym g.said ∙ ap (λ (k : ℕ). run here g.turns (page_of s.page out ev) k s.past (top h ∷ stack_of s.depth w)) f) t
 
       -- and the states that it comes through are the run's
       came : Comes here (N - 1) (turned_of r out' ev' w')
       unfolding turn
       came =
           let f : s.left ≡ suc (s.left - 1) = omega arith in
-          let z = subst (λ k. Reached here (N - 1) (page_of s.page out ev) k (flag_of s.past) (top h ∷ stack_of s.depth w)) f g.reached in
+          let z = subst (λ k. Reached here (N - 1) (page_of s.page out ev) k s.past (top h ∷ stack_of s.depth w)) f g.reached in
           rw (p.turning limit).same (comes-on here (N - 1) p.more z)
 
-      pub going_on : {c : Due} {a : State} → r ≡ Go a c → Going T tx W limit N out₀ ev₀ w₀ out' ev' w' c a
+      pub going_on : {c : Due} {a : State} → r ≡ Ok (Go a c) → Going T tx W limit N out₀ ev₀ w₀ out' ev' w' c a
       going_on {c} {a} e =
           let t = rw e at reach in
           let q = rw e at (p.turning limit) in
@@ -237,16 +241,16 @@ module _ {T tx : List ℕ} {W limit N : ℕ} {out₀ ev₀ w₀ out ev w : List 
             said = rw (eo, ee) (sym t.4);
           }
 
-      pub going_less : {c : Due} {a : State} → r ≡ Go a c → 3 * a.left + weight (top c ∷ stack_of a.depth w') < 3 * s.left + weight (top h ∷ stack_of s.depth w)
+      pub going_less : {c : Due} {a : State} → r ≡ Ok (Go a c) → 3 * a.left + weight (top c ∷ stack_of a.depth w') < 3 * s.left + weight (top h ∷ stack_of s.depth w)
       going_less {c} {a} e = let t = rw e at reach in t.5
 
       -- what is used goes into a word
-      pub done-small : {a : State} → r ≡ Done a → (a.page.used ≤ 65536) × (a.page.events ≤ 4096)
+      pub done-small : {a : State} → r ≡ Ok (Done a) → (a.page.used ≤ 65536) × (a.page.events ≤ 4096)
       done-small {a} e =
           let q = rw e at (p.turning limit) in
           (omega (arith, q.within.bytes, eo, g.start.room), omega (arith, q.within.events, ee, g.start.slots))
 
-      laid_done : {a : State} → r ≡ Done a → Laid T tx out₀ ev₀ W limit N (record { answer = 0; place = record { 0 = 0 }; left = a.left; used = a.page.used; events = a.page.events }) out' ev'
+      laid_done : {a : State} → r ≡ Ok (Done a) → Laid T tx out₀ ev₀ W limit N (Ok (record { left = a.left; used = a.page.used; events = a.page.events })) out' ev'
       unfolding run
       laid_done {a} e =
           let t = rw e at reach in
@@ -255,25 +259,25 @@ module _ {T tx : List ℕ} {W limit N : ℕ} {out₀ ev₀ w₀ out ev w : List 
           let f : t.0 ≡ suc (t.0 - 1) = omega (arith, t.3) in
           record { same = sym (t.4 ∙ rw (z, f)); used = q.within.bytes; events = q.within.events; left = omega (arith, t.2, g.left) }
 
-      pub ran-done : {a : State} → r ≡ Done a → RanTo T tx out₀ ev₀ W limit N (Ended (record { answer = 0; place = record { 0 = 0 }; left = a.left; used = a.page.used; events = a.page.events })) out' ev' w'
+      pub ran-done : {a : State} → r ≡ Ok (Done a) → RanTo T tx out₀ ev₀ W limit N (Ended (Ok (record { left = a.left; used = a.page.used; events = a.page.events }))) out' ev' w'
       ran-done e = record { laid = laid_done e; ends = λ seven. absurd (omega arith) }
 
-      laid_stop : {a : ℕ} {n : NodeNo} {left : ℕ} → r ≡ Stop a n left → Laid T tx out₀ ev₀ W limit N (record { answer = a; place = n; left = left; used = 0; events = 0 }) out' ev'
+      laid_stop : {x : Stopped} → r ≡ Err x → Laid T tx out₀ ev₀ W limit N (Err x) out' ev'
       unfolding events_of
-      laid_stop {a} {n} {left} e =
+      laid_stop {x} e =
           let t = rw e at reach in
           record { same = sym t.1; used = omega arith; events = omega arith; left = omega (arith, t.0, g.left) }
 
-      pub ran-stop : {a : ℕ} {n : NodeNo} {left : ℕ} → r ≡ Stop a n left → RanTo T tx out₀ ev₀ W limit N (Ended (record { answer = a; place = n; left = left; used = 0; events = 0 })) out' ev' w'
-      ran-stop {a} {n} {left} e =
-          let stops : Stops (E T tx W limit N out₀ ev₀) (N - 1) a n.0 left = rw (← g.outs, ← g.evs) (rw e at came) in
+      pub ran-stop : {x : Stopped} → r ≡ Err x → RanTo T tx out₀ ev₀ W limit N (Ended (Err x)) out' ev' w'
+      ran-stop {x} e =
+          let stops : Stops (E T tx W limit N out₀ ev₀) (N - 1) (number x.why) x.place.0 x.left = rw (← g.outs, ← g.evs) (rw e at came) in
           record { laid = laid_stop e; ends = λ seven. stops }
 
 -- ---- the end alone
 
 module _ {T tx out ev : List ℕ} {W limit N : ℕ} {r : Ran} {out' ev' w' : List ℕ} (p : RanTo T tx out ev W limit N r out' ev' w') where
-  pub best-ended : {e : End} → r ≡ Ended e → Laid T tx out ev W limit N e out' ev'
+  pub best-ended : {e : Result End Stopped} → r ≡ Ended e → Laid T tx out ev W limit N e out' ev'
   best-ended same = subst (λ r. Laid T tx out ev W limit N (end_of r) out' ev') same p.laid
 
-  pub best-due : {s : State} {h : Due} → r ≡ AtLimit s h → Laid T tx out ev W limit N (record { answer = 7; place = h.node; left = 0; used = 0; events = 0 }) out' ev'
+  pub best-due : {s : State} {h : Due} → r ≡ AtLimit s h → Laid T tx out ev W limit N (Err (record { why = NoSteps; place = h.node; left = 0 })) out' ev'
   best-due same = subst (λ r. Laid T tx out ev W limit N (end_of r) out' ev') same p.laid

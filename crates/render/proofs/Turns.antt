@@ -3,13 +3,13 @@
 use mathlib.Core.Path.{◌≡◌, refl, sym, ap, subst}
 use Prim.Native.Nat.{ℕ, suc, ◌+◌, ◌*◌}
 use native.Mathlib.Omega.{arith}
+use Rattle.std.specs.Prelude.{Result, Ok, Err}
 use mathlib.Core.List.{List, ◌∷◌}
 use lib.ListN.{length}
-use Rattle.table.specs.declared.NodeNo.{NodeNo}
 use Rattle.machine.specs.Turn.{Turned, turn}
 use Rattle.machine.specs.Well.{Well, weight}
 use Rattle.machine.proofs.Kept.{Next, turn-next, stacked-length}
-use Rattle.waiting.specs.Stack.{flag_of, top, stack_of}
+use Rattle.waiting.specs.Stack.{top, stack_of}
 use Rattle.waiting.specs.declared.Due.{Due}
 use Rattle.waiting.proofs.Laws.{length-stack}
 use Rattle.page.specs.Reading.{page_of, Within}
@@ -18,7 +18,8 @@ use Rattle.page.proofs.Pages.{taken_is}
 use Rattle.lay.specs.Turning.{Waits}
 use Rattle.lay.specs.declared.State.{State}
 use Rattle.lay.specs.declared.Turn.{Turn}
-use Rattle.lay.specs.declared.Turn.TheVariants.{Go, Done, Stop}
+use Rattle.lay.specs.declared.Turn.TheVariants.{Go, Done}
+use Rattle.lay.specs.declared.Stopped.{Stopped}
 use Rattle.render.specs.Visit.{Ready, Visited, env_of, visited, again}
 use Rattle.render.specs.TakeUp.{Rises, take_up, up_from, TakenUp, TurnedUp}
 use Rattle.render.proofs.Again.{again-next}
@@ -40,22 +41,22 @@ module _ {T tx out ev w : List ℕ} {W : ℕ} {s : State} {h : Due} (q : Ready T
   unfolding turn
   next limit more =
       let E = env_of T tx out ev W limit in
-      again-next E q.N q.start.valid more (suc s.left) _ (visited T tx out ev w W limit s h) (turn-next E q.N q.start.valid (page_of s.page out ev) (suc s.left) (flag_of s.past) (top h) (stack_of s.depth w) (well_of T tx out ev w W limit s h q))
+      again-next E q.N q.start.valid more (suc s.left) _ (visited T tx out ev w W limit s h) (turn-next E q.N q.start.valid (page_of s.page out ev) (suc s.left) s.past (top h) (stack_of s.depth w) (well_of T tx out ev w W limit s h q))
 
-  module _ {r : Turn} {out' ev' w' : List ℕ} (p : Visited T tx out ev w W s h r out' ev' w') where
-    pub turn_go : {c : Due} {a : State} → r ≡ Go a c → TurnedUp T tx out ev w W s h (Go a c) out' ev' w'
+  module _ {r : Result Turn Stopped} {out' ev' w' : List ℕ} (p : Visited T tx out ev w W s h r out' ev' w') where
+    pub turn_go : {c : Due} {a : State} → r ≡ Ok (Go a c) → TurnedUp T tx out ev w W s h (Ok (Go a c)) out' ev' w'
     unfolding take_up
     turn_go {c} {a} e =
-        let p' : Visited T tx out ev w W s h (Go a c) out' ev' w' = rw e at p in
+        let p' : Visited T tx out ev w W s h (Ok (Go a c)) out' ev' w' = rw e at p in
         record { more = p'.more; turning = λ limit. let t = p'.turning limit in record { same = ap (up_from (env_of T tx out ev W limit).limits) t.same; within = t.within }; empty = λ b f. go-is-not-done c a b f }
 
-    pub turn-stop : {a : ℕ} {n : NodeNo} {left : ℕ} → r ≡ Stop a n left → TurnedUp T tx out ev w W s h (Stop a n left) out' ev' w'
-    turn-stop {a} {n} {left} e =
-        let p' : Visited T tx out ev w W s h (Stop a n left) out' ev' w' = rw e at p in
-        record { more = p'.more; turning = λ limit. let t = p'.turning limit in record { same = ap (up_from (env_of T tx out ev W limit).limits) t.same; within = t.within }; empty = λ b f. stop-is-not-done a left n b f }
+    pub turn-stop : {x : Stopped} → r ≡ Err x → TurnedUp T tx out ev w W s h (Err x) out' ev' w'
+    turn-stop {x} e =
+        let p' : Visited T tx out ev w W s h (Err x) out' ev' w' = rw e at p in
+        record { more = p'.more; turning = λ limit. let t = p'.turning limit in record { same = ap (up_from (env_of T tx out ev W limit).limits) t.same; within = t.within }; empty = λ b f. stop-is-not-done x b f }
 
-    module _ {a : State} (e : r ≡ Done a) (len : length ev' ≡ length ev) where
-      done : Visited T tx out ev w W s h (Done a) out' ev' w'
+    module _ {a : State} (e : r ≡ Ok (Done a)) (len : length ev' ≡ length ev) where
+      done : Visited T tx out ev w W s h (Ok (Done a)) out' ev' w'
       done = rw e at p
 
       well : Well (env_of T tx out ev W 0).limits q.N (page_of a.page out' ev') (stack_of a.depth w')
@@ -76,7 +77,7 @@ module _ {T tx out ev w : List ℕ} {W : ℕ} {s : State} {h : Due} (q : Ready T
         omega (arith, in_a.bytes, lo, q.start.room),
       )
 
-      pub turn-done : length out' ≡ length out → {r' : Turn} {ev'' : List ℕ} → TakenUp a ev' w' r' ev'' → TurnedUp T tx out ev w W s h r' out' ev'' w'
+      pub turn-done : length out' ≡ length out → {r' : Result Turn Stopped} {ev'' : List ℕ} → TakenUp a ev' w' r' ev'' → TurnedUp T tx out ev w W s h r' out' ev'' w'
       turn-done lo u =
           record {
             more = done.more;

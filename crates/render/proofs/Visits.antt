@@ -4,6 +4,7 @@ use mathlib.Core.Path.{◌≡◌, refl, sym}
 use Prim.Native.Nat.{ℕ, ◌+◌, ◌*◌, ◌≤◌, ◌<◌}
 use native.Mathlib.Omega.{arith}
 use mathlib.Core.Bool.{Bool}
+use Rattle.std.specs.Prelude.{Result, Ok}
 use mathlib.Core.List.{List, ◌∷◌}
 use lib.ListN.{get_or, length}
 use Rattle.table.specs.Node.{Node, fail, way_of, node_of, node_at}
@@ -13,15 +14,17 @@ use Rattle.rules.specs.Layout.{Limits, Page, nested}
 use Rattle.machine.specs.Turn.{Turned, on, put, visit, give_up}
 use Rattle.machine.proofs.Kept.{nodes_of, nested-le}
 use Rattle.waiting.specs.Area.{area_words, due_of}
-use Rattle.waiting.specs.Stack.{mode_of, flag_of, top, stack_of}
+use Rattle.waiting.specs.Stack.{mode_of, top, stack_of}
 use Rattle.waiting.specs.declared.Due.{Due}
-use Rattle.waiting.proofs.Laws.{flat_mode, length-stack}
+use Rattle.waiting.specs.declared.Mode.TheVariants.{Broken, Flat}
+use Rattle.waiting.proofs.Laws.{length-stack}
 use Rattle.fitting.specs.Fitting.{Fitting}
 use Rattle.table.proofs.Nodes.{node-is, sound_longer}
 use Rattle.page.specs.Reading.{page_of}
 use Rattle.lay.specs.Turning.{Turning, Kept, Restoring, Wrote, Annotated}
 use Rattle.lay.specs.declared.State.{State}
 use Rattle.lay.specs.declared.Turn.{Turn}
+use Rattle.lay.specs.declared.Stopped.{Stopped}
 use Rattle.lay.specs.declared.Turn.TheVariants.{Go, Done}
 use Rattle.render.specs.declared.Nested.{Nested}
 use Rattle.render.specs.Visit.{Ready, Visited, Held, Came, env_of}
@@ -86,20 +89,20 @@ module _ {T tx out ev w : List ℕ} {W : ℕ} {s : State} {h : Due} (q : Ready T
   -- by the step function, if the node's kind is k
   abbrev leads : ℕ → ℕ → Turned
   leads k limit =
-      visit (env_of T tx out ev W limit) n (of-kind k) h.indent.0 (mode_of h.mode.0)
-      (page_of s.page out ev) s.left (flag_of s.past) (stack_of s.depth w)
+      visit (env_of T tx out ev W limit) n (of-kind k) h.indent.0 (mode_of h.mode)
+      (page_of s.page out ev) s.left s.past (stack_of s.depth w)
 
   -- by the kind
-  visit_by : (k : ℕ) {r : Turn} {out' ev' w' : List ℕ} → get_or T (n * 4) 0 ≡ k
+  visit_by : (k : ℕ) {r : Result Turn Stopped} {out' ev' w' : List ℕ} → get_or T (n * 4) 0 ≡ k
       → ((limit : ℕ) → Turning r out' ev' w' (leads k limit))
       → Visited T tx out ev w W s h r out' ev' w'
   visit_by k e t = record { more = 0; turning = λ limit. rw (node-is T n k e) (t limit) }
 
-  pub visit-nil : get_or T (n * 4) 0 ≡ 0 → Visited T tx out ev w W s h (Done s) out ev w
+  pub visit-nil : get_or T (n * 4) 0 ≡ 0 → Visited T tx out ev w W s h (Ok (Done s)) out ev w
   visit-nil e = visit_by 0 e (λ limit. record { same = refl; within = q.within })
 
   -- a function that writes the work area alone: Append, Group, Union
-  pub visit-kept : (k : ℕ) {r : Turn} {w' : List ℕ} {t : Page → Turned} → get_or T (n * 4) 0 ≡ k → Kept s r w' t
+  pub visit-kept : (k : ℕ) {r : Result Turn Stopped} {w' : List ℕ} {t : Page → Turned} → get_or T (n * 4) 0 ≡ k → Kept s r w' t
       → ((limit : ℕ) → t (page_of s.page out ev) ≡ leads k limit)
       → Visited T tx out ev w W s h r out ev w'
   visit-kept k e p is =
@@ -107,17 +110,17 @@ module _ {T tx out ev w : List ℕ} {W : ℕ} {s : State} {h : Due} (q : Ready T
 
   -- a child is due, with an indentation
   visit-child : (k : ℕ) (c : Due) → get_or T (n * 4) 0 ≡ k
-      → ((limit : ℕ) → on (page_of s.page out ev) s.left (flag_of s.past) (top c ∷ stack_of s.depth w) ≡ leads k limit)
-      → Visited T tx out ev w W s h (Go s c) out ev w
+      → ((limit : ℕ) → on (page_of s.page out ev) s.left s.past (top c ∷ stack_of s.depth w) ≡ leads k limit)
+      → Visited T tx out ev w W s h (Ok (Go s c)) out ev w
   visit-child k c e is = visit_by k e (λ limit. record { same = is limit; within = q.within })
 
-  pub visit-broken : (c : Due) → get_or T (n * 4) 0 ≡ 3 → h.mode.0 ≡ 0 → c ≡ due_of (get_or T (n * 4 + 1) 0) h.indent.0 h.mode.0
-      → Visited T tx out ev w W s h (Go s c) out ev w
+  pub visit-broken : (c : Due) → get_or T (n * 4) 0 ≡ 3 → h.mode ≡ Broken → c ≡ due_of (get_or T (n * 4 + 1) 0) h.indent.0 h.mode
+      → Visited T tx out ev w W s h (Ok (Go s c)) out ev w
   visit-broken c e z ec = visit-child 3 c e (λ limit. rw (ec, z))
 
-  pub visit-flat : (c : Due) → get_or T (n * 4) 0 ≡ 3 → (h.mode.0 ≡ 0 → ⊥) → c ≡ due_of (get_or T (n * 4 + 2) 0) h.indent.0 h.mode.0
-      → Visited T tx out ev w W s h (Go s c) out ev w
-  visit-flat c e z ec = visit-child 3 c e (λ limit. rw (ec, flat_mode h.mode.0 z))
+  pub visit-flat : (c : Due) → get_or T (n * 4) 0 ≡ 3 → h.mode ≡ Flat → c ≡ due_of (get_or T (n * 4 + 2) 0) h.indent.0 h.mode
+      → Visited T tx out ev w W s h (Ok (Go s c)) out ev w
+  visit-flat c e z ec = visit-child 3 c e (λ limit. rw (ec, z))
 
   -- a Nest, and those in a row below it
   module _ (i : Indent) (e : get_or T (n * 4) 0 ≡ 4)
@@ -135,34 +138,34 @@ module _ {T tx out ev w : List ℕ} {W : ℕ} {s : State} {h : Due} (q : Ready T
         }
 
     pub visit-nest : (r : Nested) → Came T s.left below r
-        → Visited T tx out ev w W s h (Go (record { page = s.page; left = r.left; past = s.past; depth = s.depth }) r.due) out ev w
+        → Visited T tx out ev w W s h (Ok (Go (record { page = s.page; left = r.left; past = s.past; depth = s.depth }) r.due)) out ev w
     visit-nest r c =
         record {
           more = c.more;
           turning = λ limit.
               record {
-                same = sym (rw (node-is T n 4 e, ← ei) (c.said (env_of T tx out ev W limit) (page_of s.page out ev) (flag_of s.past) (stack_of s.depth w) refl));
+                same = sym (rw (node-is T n 4 e, ← ei) (c.said (env_of T tx out ev W limit) (page_of s.page out ev) s.past (stack_of s.depth w) refl));
                 within = q.within;
               };
         }
 
   pub visit-align : (i : Indent) → get_or T (n * 4) 0 ≡ 9 → i.0 ≡ s.page.column.0
-      → Visited T tx out ev w W s h (Go s (record { node = record { 0 = get_or T (n * 4 + 1) 0 }; indent = i; mode = h.mode })) out ev w
+      → Visited T tx out ev w W s h (Ok (Go s (record { node = record { 0 = get_or T (n * 4 + 1) 0 }; indent = i; mode = h.mode }))) out ev w
   visit-align i e ei = visit-child 9 _ e (λ limit. rw ei)
 
   -- a function that writes the output alone: Hardline, Text
-  pub visit-wrote : (k : ℕ) {r : Turn} {out' : List ℕ} {grown : Page → Page} {past : Bool} → get_or T (n * 4) 0 ≡ k → Wrote s out r out' grown past
+  pub visit-wrote : (k : ℕ) {r : Result Turn Stopped} {out' : List ℕ} {grown : Page → Page} {past : Bool} → get_or T (n * 4) 0 ≡ k → Wrote s out r out' grown past
       → ((limit : ℕ)
       → put (env_of T tx out ev W limit).limits (grown (page_of s.page out ev)) s.left past (stack_of s.depth w) ≡ leads k limit)
       → Visited T tx out ev w W s h r out' ev w
   visit-wrote k e p is =
       visit_by k e (λ limit. rw (← (is limit)) (p.turning (env_of T tx out ev W limit).limits ev w refl q.within))
 
-  pub visit-annotated : {r : Turn} {ev' w' : List ℕ} {t : Limits → Page → Turned} → get_or T (n * 4) 0 ≡ 7 → Annotated s ev r ev' w' t
+  pub visit-annotated : {r : Result Turn Stopped} {ev' w' : List ℕ} {t : Limits → Page → Turned} → get_or T (n * 4) 0 ≡ 7 → Annotated s ev r ev' w' t
       → ((limit : ℕ) → t (env_of T tx out ev W limit).limits (page_of s.page out ev) ≡ leads 7 limit)
       → Visited T tx out ev w W s h r out ev' w'
   visit-annotated e p is =
       visit_by 7 e (λ limit. rw (← (is limit)) (p.turning (env_of T tx out ev W limit).limits out refl q.within))
 
-  pub visit-fail : {r : Turn} → node_at T n ≡ fail → Restoring s w r (λ p. give_up p s.left (stack_of s.depth w)) → Visited T tx out ev w W s h r out ev w
+  pub visit-fail : {r : Result Turn Stopped} → node_at T n ≡ fail → Restoring s w r (λ p. give_up p s.left (stack_of s.depth w)) → Visited T tx out ev w W s h r out ev w
   visit-fail e p = record { more = 0; turning = λ limit. rw e (p.turning out ev q.N q.within q.stack.1) }

@@ -1,18 +1,19 @@
 -- What is taken up when a node is done: ends of annotations and trials, until a node is on top or nothing waits.
-use Rattle.std.specs.Prelude.{◌≡◌, ℕ, ◌*◌, ◌/◌, ◌≤◌, Bool, List, [], ◌∷◌, length, ltb}
+use Rattle.std.specs.Prelude.{◌≡◌, ℕ, ◌*◌, ◌/◌, ◌≤◌, Bool, Result, Ok, List, [], ◌∷◌, length, ltb}
 use Rattle.rules.specs.Call.{event_words}
 use Rattle.choice.specs.Pick.{pick}
 use Rattle.rules.specs.Layout.{Limits, Page, marked}
 use Rattle.machine.specs.Waiting.{Entry, node, trial, closing, back}
 use Rattle.machine.specs.Turn.{Turned, on, stop}
 use Rattle.waiting.specs.Area.{area_words}
-use Rattle.waiting.specs.Stack.{flag_of, stack_of}
+use Rattle.waiting.specs.Stack.{stack_of}
 use Rattle.waiting.specs.declared.Due.{Due}
 use Rattle.page.specs.Reading.{page_of, Within}
 use Rattle.lay.specs.Turning.{Turning, Waits}
 use Rattle.lay.specs.declared.State.{State}
 use Rattle.lay.specs.declared.Turn.{Turn}
 use Rattle.lay.specs.declared.Turn.TheVariants.{Done}
+use Rattle.lay.specs.declared.Stopped.{Stopped}
 use Rattle.render.specs.Visit.{env_of, visited, again}
 
 -- several turns of the step function in one
@@ -38,14 +39,14 @@ Rises s ev w =
     × (s.page.used ≤ 65536)
 
 -- over a state that is well, and any output; where no node is due nothing is left waiting
-pub record TakenUp (s : State) (ev w : List ℕ) (r : Turn) (ev' : List ℕ) : Type 0 where
+pub record TakenUp (s : State) (ev w : List ℕ) (r : Result Turn Stopped) (ev' : List ℕ) : Type 0 where
   pub turning : (L : Limits) (out : List ℕ) (N : ℕ) → L.slots ≡ length ev / event_words → Within s.page out ev → Waits N (length out) s w
-      → Turning r out ev' w (take_up L (page_of s.page out ev) s.left (flag_of s.past) (stack_of s.depth w))
-  pub empty : (q : State) → r ≡ Done q → q.depth ≡ 0
+      → Turning r out ev' w (take_up L (page_of s.page out ev) s.left s.past (stack_of s.depth w))
+  pub empty : (q : State) → r ≡ Ok (Done q) → q.depth ≡ 0
 
 -- a visit, and what is taken up after it
-pub record TurnedUp (T tx out ev w : List ℕ) (W : ℕ) (s : State) (h : Due) (r : Turn) (out' ev' w' : List ℕ) : Type 0 where
+pub record TurnedUp (T tx out ev w : List ℕ) (W : ℕ) (s : State) (h : Due) (r : Result Turn Stopped) (out' ev' w' : List ℕ) : Type 0 where
   pub more : ℕ
   pub turning : (limit : ℕ)
       → Turning r out' ev' w' (up_from (env_of T tx out ev W limit).limits (again (env_of T tx out ev W limit) more (visited T tx out ev w W limit s h)))
-  pub empty : (q : State) → r ≡ Done q → q.depth ≡ 0
+  pub empty : (q : State) → r ≡ Ok (Done q) → q.depth ≡ 0

@@ -1,5 +1,5 @@
 -- What a run starts from; what a visit of the node due starts from, and what it promises.
-use Rattle.std.specs.Prelude.{◌≡◌, ℕ, zero, suc, ◌+◌, ◌*◌, ◌/◌, ◌≤◌, ◌<◌, Bool, List, [], ◌∷◌, length}
+use Rattle.std.specs.Prelude.{◌≡◌, ℕ, zero, suc, ◌+◌, ◌*◌, ◌/◌, ◌≤◌, ◌<◌, Bool, Result, List, [], ◌∷◌, length}
 use Rattle.rules.specs.Call.{event_words}
 use Rattle.table.specs.Node.{node_at}
 use Rattle.table.specs.Sound.{AllSound}
@@ -8,13 +8,14 @@ use Rattle.machine.specs.Waiting.{Entry}
 use Rattle.machine.specs.Turn.{Env, Turned, on, stop, turn, visit}
 use Rattle.machine.specs.Well.{Stacked}
 use Rattle.waiting.specs.Area.{area_words}
-use Rattle.waiting.specs.Stack.{mode_of, flag_of, top, stack_of}
+use Rattle.waiting.specs.Stack.{mode_of, top, stack_of}
 use Rattle.waiting.specs.declared.Due.{Due}
 use Rattle.fitting.specs.Fitting.{Known}
 use Rattle.page.specs.Reading.{page_of, takes, Within}
 use Rattle.lay.specs.Turning.{Turning}
 use Rattle.lay.specs.declared.State.{State}
 use Rattle.lay.specs.declared.Turn.{Turn}
+use Rattle.lay.specs.declared.Stopped.{Stopped}
 use Rattle.render.specs.declared.Nested.{Nested}
 
 -- table, text, output, events, width and limit, as the step function has them
@@ -45,8 +46,8 @@ pub record Ready (T tx out ev w : List ℕ) (W : ℕ) (s : State) (h : Due) : Ty
 -- the visit of the step function
 abbrev pub visited : List ℕ → List ℕ → List ℕ → List ℕ → List ℕ → ℕ → ℕ → State → Due → Turned
 visited T tx out ev w W limit s h =
-    visit (env_of T tx out ev W limit) h.node.0 (node_at T h.node.0) h.indent.0 (mode_of h.mode.0)
-    (page_of s.page out ev) s.left (flag_of s.past) (stack_of s.depth w)
+    visit (env_of T tx out ev W limit) h.node.0 (node_at T h.node.0) h.indent.0 (mode_of h.mode)
+    (page_of s.page out ev) s.left s.past (stack_of s.depth w)
 
 -- so many turns of the step function more, as far as there are steps
 abbrev pub again : Env → ℕ → Turned → Turned
@@ -57,7 +58,7 @@ again E (suc k) (on p (suc left) past (e ∷ w)) = again E k (turn E p (suc left
 again E (suc k) (stop a n left) = stop a n left
 
 -- it leads where the step function leads, by the visit and some turns more
-pub record Visited (T tx out ev w : List ℕ) (W : ℕ) (s : State) (h : Due) (r : Turn) (out' ev' w' : List ℕ) : Type 0 where
+pub record Visited (T tx out ev w : List ℕ) (W : ℕ) (s : State) (h : Due) (r : Result Turn Stopped) (out' ev' w' : List ℕ) : Type 0 where
   pub more : ℕ
   pub turning : (limit : ℕ) → Turning r out' ev' w' (again (env_of T tx out ev W limit) more (visited T tx out ev w W limit s h))
 

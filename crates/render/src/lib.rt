@@ -9,16 +9,14 @@ ghost use Rattle.render.specs.Visit.{Start, Ready, Visited, Held, Came};
 ghost use Rattle.render.specs.TakeUp.{Rises, TakenUp, TurnedUp};
 ghost use Rattle.render.specs.Best.{Laid, RanTo};
 
-use lay::{State, Turn};
-use page::{Page, Put};
-use table::{Column, Indent, NodeNo};
-use waiting::{Due, Mode};
+use lay::{State, Stopped, Turn};
+use page::Page;
+use table::{Column, Indent, NodeNo, Refusal};
+use waiting::{Due, Mode, Tag};
 
-// How a run ended: the answer, the place, the steps left, the bytes and the events used.
+// The end of a layout: the steps left, the bytes and the events used.
 #[derive(Clone, Copy)]
 pub struct End {
-    pub answer: u32,
-    pub place: NodeNo,
     pub left: u32,
     pub used: u32,
     pub events: u32,
@@ -27,7 +25,7 @@ pub struct End {
 // How a run ended; or the state of the layout and the node due in it, where the steps equal the limit.
 #[derive(Clone, Copy)]
 pub enum Ran {
-    Ended(End),
+    Ended(Result<End, Stopped>),
     AtLimit(State, Due),
 }
 
@@ -56,11 +54,10 @@ fn nests_down(table: &[u32], steps: u32, start: Due) -> Nested
             return Nested { left, due };
         }
         let indent = lay::nest_by(due.indent, table[at + 2], table[at + 3]);
-        let mode = due.mode;
         due = Due {
             node: NodeNo(n - 1),
             indent,
-            mode,
+            ..due
         };
         left -= 1;
     }
@@ -77,7 +74,7 @@ fn visit(
     width: u32,
     s: State,
     due: Due,
-) -> Turn
+) -> Result<Turn, Stopped>
     requires { Ready table.now text.now out.old events.old work.old width s due }
     ensures { Visited table.now text.now
         out.old events.old work.old width s due
@@ -86,92 +83,91 @@ fn visit(
     let at = (due.node.0 as usize) * 4;
     let kind = table[at];
     let a = table[at + 1];
-    let own = due.indent;
-    let mode = due.mode;
     match kind {
-        table::NIL => Turn::Done(s),
+        table::NIL => Ok(Turn::Done(s)),
         table::APPEND => lay::lay_append(work, s, due, a, table[at + 2]),
         table::GROUP => lay::lay_group(table, work, width, s, due, a),
-        table::FLAT_ALT => if mode.0 == 0 {
-            Turn::Go(s, lay::child_of(due, a))
-        } else {
-            Turn::Go(s, lay::child_of(due, table[at + 2]))
+        table::FLAT_ALT => match due.mode {
+            Mode::Broken => Ok(Turn::Go(s, lay::child_of(due, a))),
+            Mode::Flat => Ok(Turn::Go(s, lay::child_of(due, table[at + 2]))),
         },
         table::NEST => {
-            let indent = lay::nest_by(own, table[at + 2], table[at + 3]);
             let child = Due {
                 node: NodeNo(a),
-                indent,
-                mode,
+                indent: lay::nest_by(due.indent, table[at + 2], table[at + 3]),
+                ..due
             };
             let row = nests_down(table, s.left, child);
-            let last = row.due;
-            let mut next = s;
-            next.left = row.left;
-            Turn::Go(next, last)
+            Ok(Turn::Go(
+                State {
+                    left: row.left,
+                    ..s
+                },
+                row.due,
+            ))
         }
-        table::HARDLINE => lay::lay_hardline(out, work, s, own),
+        table::HARDLINE => lay::lay_hardline(out, work, s, due.indent),
         table::TEXT => lay::lay_text(text, out, width, s, a, table[at + 2], table[at + 3]),
         table::ANNOTATED => lay::lay_annotated(events, work, s, due, a, table[at + 2]),
         table::UNION => lay::lay_union(work, s, due, a, table[at + 2]),
         table::ALIGN => {
-            let column = s.page.column;
-            let indent = column.to_indent();
-            Turn::Go(
-                s,
-                Due {
-                    node: NodeNo(a),
-                    indent,
-                    mode,
-                },
-            )
+            let child = Due {
+                node: NodeNo(a),
+                indent: s.page.column.to_indent(),
+                ..due
+            };
+            Ok(Turn::Go(s, child))
         }
         _ => lay::lay_fail(work, s),
     }
 }
 
 // Ends are taken up, until a node is due or nothing waits. A trial whose arm is done is given up if a Text laid in it ended past width.
-fn take_up_ends(events: &mut [u32], work: &[u32], state: State) -> Turn
+fn take_up_ends(events: &mut [u32], work: &[u32], state: State) -> Result<Turn, Stopped>
     requires { Rises state events.old work.now }
     ensures { TakenUp state events.old work.now result events.new }
 {
     let mut s = state;
     while 0 < s.depth {
         let d = s.depth - 1;
-        let tag = waiting::tag_at(work, d);
-        if tag == waiting::NODE {
-            s.depth = d;
-            return Turn::Go(s, waiting::due_at(work, d));
-        }
-        if tag == waiting::TRIAL {
-            let saved = waiting::saved_at(work, d);
-            if s.past != 0 {
-                return Turn::Go(lay::restored(s, saved, d), waiting::due_at(work, d));
+        match waiting::tag_at(work, d) {
+            Tag::Node => {
+                s.depth = d;
+                return Ok(Turn::Go(s, waiting::due_at(work, d)));
             }
-            s.past = saved.past;
-        } else {
-            let now = s.page;
-            let Put::On(page) = page::note_event(events, now, 0, waiting::label_at(work, d)) else {
-                return Turn::Stop(9, waiting::node_at(work, d), s.left);
-            };
-            s.page = page;
+            Tag::Trial => {
+                let saved = waiting::saved_at(work, d);
+                if s.past {
+                    return Ok(Turn::Go(lay::restored(s, saved, d), waiting::due_at(work, d)));
+                }
+                s.past = saved.past;
+            }
+            Tag::Closing => {
+                let now = s.page;
+                let Some(page) = page::note_event(events, now, 0, waiting::label_at(work, d)) else {
+                    return Err(Stopped {
+                        why: Refusal::NoEvents,
+                        place: waiting::node_at(work, d),
+                        left: s.left,
+                    });
+                };
+                s.page = page;
+            }
         }
         s.depth = d;
     }
-    Turn::Done(s)
+    Ok(Turn::Done(s))
 }
 
 // A node is done: a node on top is due at once, as mostly; else ends are taken up first.
-fn take_up(events: &mut [u32], work: &[u32], state: State) -> Turn
+fn take_up(events: &mut [u32], work: &[u32], state: State) -> Result<Turn, Stopped>
     requires { Rises state events.old work.now }
     ensures { TakenUp state events.old work.now result events.new }
 {
     if 0 < state.depth {
         let d = state.depth - 1;
-        if waiting::tag_at(work, d) == waiting::NODE {
-            let mut s = state;
-            s.depth = d;
-            return Turn::Go(s, waiting::due_at(work, d));
+        if let Tag::Node = waiting::tag_at(work, d) {
+            return Ok(Turn::Go(State { depth: d, ..state }, waiting::due_at(work, d)));
         }
     }
     take_up_ends(events, work, state)
@@ -187,16 +183,15 @@ fn turn(
     width: u32,
     s: State,
     due: Due,
-) -> Turn
+) -> Result<Turn, Stopped>
     requires { Ready table.now text.now out.old events.old work.old width s due }
     ensures { TurnedUp table.now text.now
         out.old events.old work.old width s due
         result out.new events.new work.new }
 {
-    match visit(table, text, out, events, work, width, s, due) {
-        Turn::Go(on, next) => Turn::Go(on, next),
+    match visit(table, text, out, events, work, width, s, due)? {
+        Turn::Go(on, next) => Ok(Turn::Go(on, next)),
         Turn::Done(on) => take_up(events, work, on),
-        Turn::Stop(answer, place, left) => Turn::Stop(answer, place, left),
     }
 }
 
@@ -218,7 +213,7 @@ pub fn run(
     let mut due = Due {
         node: NodeNo(nodes - 1),
         indent: Indent(0),
-        mode: Mode(0),
+        mode: Mode::Broken,
     };
     let mut s = State {
         page: Page {
@@ -227,7 +222,7 @@ pub fn run(
             events: 0,
         },
         left: limit,
-        past: 0,
+        past: false,
         depth: 0,
     };
     loop {
@@ -236,28 +231,18 @@ pub fn run(
         }
         s.left = s.left - 1;
         match turn(table, text, out, events, work, width, s, due) {
-            Turn::Go(on, next) => {
+            Ok(Turn::Go(on, next)) => {
                 due = next;
                 s = on;
             }
-            Turn::Done(on) => {
-                return Ran::Ended(End {
-                    answer: 0,
-                    place: NodeNo(0),
+            Ok(Turn::Done(on)) => {
+                return Ran::Ended(Ok(End {
                     left: on.left,
                     used: on.page.used as u32,
                     events: on.page.events as u32,
-                });
+                }));
             }
-            Turn::Stop(answer, place, left) => {
-                return Ran::Ended(End {
-                    answer,
-                    place,
-                    left,
-                    used: 0,
-                    events: 0,
-                });
-            }
+            Err(stopped) => return Ran::Ended(Err(stopped)),
         }
     }
 }
@@ -272,22 +257,17 @@ pub fn best(
     width: u32,
     limit: u32,
     nodes: u32,
-) -> End
+) -> Result<End, Stopped>
     requires { Start table.now text.now out.old events.old work.old width nodes }
     ensures { Laid table.now text.now out.old events.old width limit nodes
         result out.new events.new }
 {
     match run(table, text, out, events, work, width, limit, nodes) {
         Ran::Ended(end) => end,
-        Ran::AtLimit(_, due) => {
-            let place = due.node;
-            End {
-                answer: 7,
-                place,
-                left: 0,
-                used: 0,
-                events: 0,
-            }
-        }
+        Ran::AtLimit(_, due) => Err(Stopped {
+            why: Refusal::NoSteps,
+            place: due.node,
+            left: 0,
+        }),
     }
 }

@@ -141,15 +141,18 @@ fn lay_out<P: Write, T: Write>(table: &[u32], text: &[u8], print: &mut P, tell: 
     let mut out = [0u8; 65536];
     let mut events = [0u32; EVENTS];
     let mut work = [0u32; 16384];
-    let r = layout::sheet(table, text, &mut out, &mut events, &mut work);
-    if r.answer != 0 {
-        let answer = r.answer;
-        let _ = writeln!(tell, "the layout answers {answer}");
-        return false;
+    match layout::sheet(table, text, &mut out, &mut events, &mut work) {
+        Ok(laid) => {
+            let used = laid.used as usize;
+            let words = laid.events as usize * EVENT_WORDS;
+            print_whole(front(&out, used), words_front(&events, words), print, tell)
+        }
+        Err(refused) => {
+            let answer = u32::from(refused.why);
+            let _ = writeln!(tell, "the layout answers {answer}");
+            false
+        }
     }
-    let used = r.used as usize;
-    let words = r.events as usize * EVENT_WORDS;
-    print_whole(front(&out, used), words_front(&events, words), print, tell)
 }
 
 // ---- the whole run

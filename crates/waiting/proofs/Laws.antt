@@ -2,34 +2,59 @@
 -- Assumes nothing.
 use mathlib.Core.Path.{◌≡◌, refl, sym, ap, ◌∙◌}
 use Prim.Native.Nat.{ℕ, suc, zero, ◌+◌, ◌-◌, ◌*◌, ◌≤◌, ◌<◌}
-use mathlib.Core.Bool.{true, false}
+use Rattle.std.specs.Prelude.{Option, Some, None}
+use mathlib.Core.Bool.{Bool, true, false}
 use mathlib.Core.List.{List, [], ◌∷◌}
 use native.Mathlib.Omega.{arith}
-use native.Mathlib.Numerals.{add-one, add-two, add-three}
+use native.Mathlib.Numerals.{add-one}
 use native.Mathlib.Nat.{add-zero}
 use lib.ListN.{get_or, length, set, length-set}
 use lib.Seq.{get_or-set_same, get_or-set_other, sets}
 use lib.Dec.{eqb}
 use borrow.Author.Tests.{eq-eqb, ne_eqb}
-use Rattle.rules.specs.Layout.{Page, flat}
+use mir.Val.{bool_byte}
+use Rattle.rules.specs.Layout.{Page}
 use Rattle.machine.specs.Waiting.{Saved, Entry, node, trial, closing, next_indent}
 use Rattle.machine.specs.Fit.{reread}
 use Rattle.machine.specs.Turn.{give_up}
 use Rattle.machine.specs.Well.{Nodes}
-use Rattle.waiting.specs.Area.{entry_words, saved_words, saved_from, fit_from, area_words, number_at, indent_at, mode_at, tag_at}
-use Rattle.waiting.specs.Stack.{mode_of, saved_of, entry_of, saved_at, entry_at, stack_of, items_of, Same, FitPushed, tag_of, from, Nearest}
+use Rattle.waiting.specs.Area.{entry_words, saved_words, saved_from, fit_from, area_words, number_at, indent_at, mode_at, tag_at, mode_in, mode_word, tag_in, tag_word, flag_of}
+use Rattle.waiting.specs.Stack.{mode_of, saved_of, entry_of, saved_at, entry_at, top, stack_of, items_of, Same, FitPushed, tag_of, from, Nearest}
+use Rattle.waiting.specs.declared.Mode.{Mode}
+use Rattle.waiting.specs.declared.Mode.TheVariants.{Broken, Flat}
+use Rattle.waiting.specs.declared.Tag.{Tag}
+use Rattle.waiting.specs.declared.Tag.TheVariants.{Node, Trial, Closing}
+use Rattle.waiting.specs.declared.Due.{Due}
 use Rattle.waiting.specs.declared.Saved.{Saved as SavedWords}
 
--- a mode that is not 0
-pub flat_mode : (m : ℕ) → (m ≡ 0 → ⊥) → mode_of m ≡ flat
-flat_mode zero h = absurd (h refl)
-flat_mode (suc m) h = refl
+-- ---- words
+
+-- a mode, a tag and a flag by their own word
+mode_back : (m : Mode) → mode_in (mode_word m) ≡ m
+mode_back Broken = refl
+mode_back Flat = refl
+
+tag_back : (t : Tag) → tag_in (tag_word t) ≡ t
+tag_back Node = refl
+tag_back Trial = refl
+tag_back Closing = refl
+
+-- tags with the same word are the same
+tag_same : (t u : Tag) → tag_word t ≡ tag_word u → t ≡ u
+tag_same t u e = sym (tag_back t) ∙ ap tag_in e ∙ tag_back u
+
+-- a flag by the word that is 1 where it is set
+pub flag_byte : (b : Bool) → flag_of (bool_byte b) ≡ b
+flag_byte true = refl
+flag_byte false = refl
+
+-- ---- heights
 
 pub length-stack : (d : ℕ) (w : List ℕ) → length (stack_of d w) ≡ d
 length-stack zero w = refl
 length-stack (suc d) w = ap suc (length-stack d w)
 
-pub length-items : (m k : ℕ) (w : List ℕ) → length (items_of m k w) ≡ k
+pub length-items : (m : Mode) (k : ℕ) (w : List ℕ) → length (items_of m k w) ≡ k
 length-items m zero w = refl
 length-items m (suc k) w = ap suc (length-items m k w)
 
@@ -39,24 +64,27 @@ stack_top w d lt =
     let e : d ≡ suc (d - 1) = omega arith in
     ap (λ (k : ℕ). stack_of k w) e
 
--- and what it is by its tag: a node, the end of a trial, else that of an annotation
-pub node-top : (w : List ℕ) (d : ℕ) → 0 < d → tag_at w (d - 1) ≡ 0
-    → stack_of d w ≡ node (number_at w (d - 1)) (indent_at w (d - 1)) (mode_of (mode_at w (d - 1))) ∷ stack_of (d - 1) w
+-- and what it is by its tag
+pub node-top : (w : List ℕ) (d : ℕ) → 0 < d → tag_in (tag_at w (d - 1)) ≡ Node
+    → stack_of d w ≡ node (number_at w (d - 1)) (indent_at w (d - 1)) (mode_of (mode_in (mode_at w (d - 1)))) ∷ stack_of (d - 1) w
 node-top w d lt t = stack_top w d lt ∙ rw t
 
-pub trial-top : (w : List ℕ) (d : ℕ) → 0 < d → tag_at w (d - 1) ≡ 1
-    → stack_of d w ≡ trial (number_at w (d - 1)) (indent_at w (d - 1)) (mode_of (mode_at w (d - 1))) (saved_at w (d - 1)) ∷ stack_of (d - 1) w
+pub trial-top : (w : List ℕ) (d : ℕ) → 0 < d → tag_in (tag_at w (d - 1)) ≡ Trial
+    → stack_of d w ≡ trial (number_at w (d - 1)) (indent_at w (d - 1)) (mode_of (mode_in (mode_at w (d - 1)))) (saved_at w (d - 1)) ∷ stack_of (d - 1) w
 trial-top w d lt t = stack_top w d lt ∙ rw t
 
-closing-entry : (t n i m : ℕ) (v : Saved) → (t ≡ 0 → ⊥) → (t ≡ 1 → ⊥) → entry_of t n i m v ≡ closing n i
-closing-entry zero n i m v h g = absurd (h refl)
-closing-entry (suc zero) n i m v h g = absurd (g refl)
-closing-entry (suc (suc t)) n i m v h g = refl
-
-pub closing-top : (w : List ℕ) (d : ℕ) → 0 < d → (tag_at w (d - 1) ≡ 0 → ⊥) → (tag_at w (d - 1) ≡ 1 → ⊥)
+pub closing-top : (w : List ℕ) (d : ℕ) → 0 < d → tag_in (tag_at w (d - 1)) ≡ Closing
     → stack_of d w ≡ closing (number_at w (d - 1)) (indent_at w (d - 1)) ∷ stack_of (d - 1) w
-closing-top w d lt a b =
-    stack_top w d lt ∙ ap (λ (e : Entry). e ∷ stack_of (d - 1) w) (closing-entry _ _ _ (mode_at w (d - 1)) (saved_at w (d - 1)) a b)
+closing-top w d lt t = stack_top w d lt ∙ rw t
+
+-- the same at a height
+pub node_up : (w : List ℕ) (h : ℕ) → tag_in (tag_at w h) ≡ Node
+    → stack_of (suc h) w ≡ node (number_at w h) (indent_at w h) (mode_of (mode_in (mode_at w h))) ∷ stack_of h w
+node_up w h t = rw t
+
+pub trial_up : (w : List ℕ) (h : ℕ) → tag_in (tag_at w h) ≡ Trial
+    → stack_of (suc h) w ≡ trial (number_at w h) (indent_at w h) (mode_of (mode_in (mode_at w h))) (saved_at w h) ∷ stack_of h w
+trial_up w h t = rw t
 
 -- ---- areas with the same entries
 
@@ -122,9 +150,6 @@ sets_at (v ∷ vs) l at (suc k) h lt =
     let e : at + suc k ≡ suc at + k = omega arith in
     rw e (sets_at vs (set l at v) (suc at) k (simp length-set (omega arith)) (omega arith))
 
-pub stores4 : (w : List ℕ) (at a b c e : ℕ) → set (set (set (set w at a) (at + 1) b) (at + 2) c) (at + 3) e ≡ sets w at (a ∷ b ∷ c ∷ e ∷ [])
-stores4 w at a b c e = rw (add-one, add-two, add-three)
-
 -- ---- a push
 
 module _ (w : List ℕ) (d : ℕ) (deep : d < 1024) (area : area_words ≤ length w) where
@@ -143,7 +168,7 @@ module _ (w : List ℕ) (d : ℕ) (deep : d < 1024) (area : area_words ≤ lengt
 
     -- what stands at the entry d then, over any words that trials saved
     entry-stored : (w' : List ℕ) → ((i : ℕ) → i < saved_from → get_or w' i 0 ≡ get_or (sets w (d * entry_words) words) i 0)
-        → entry_at w' d ≡ entry_of t a b c (saved_at w' d)
+        → entry_at w' d ≡ entry_of (tag_in t) a b (mode_in c) (saved_at w' d)
     entry-stored w' h =
         let here = d * entry_words in
         let e : (k : ℕ) → k < 4 → get_or w' (here + k) 0 ≡ get_or words k 0 =
@@ -151,34 +176,50 @@ module _ (w : List ℕ) (d : ℕ) (deep : d < 1024) (area : area_words ≤ lengt
         let z : get_or w' here 0 ≡ a = rw add-zero at (e 0 (omega arith)) in
         rw (e 3 (omega arith), z, e 1 (omega arith), e 2 (omega arith))
 
-    pub pushed : (w' : List ℕ) → w' ≡ sets w (d * entry_words) words → stack_of (d + 1) w' ≡ entry_of t a b c (saved_at w' d) ∷ stack_of d w
+    pushed : (w' : List ℕ) → w' ≡ sets w (d * entry_words) words → stack_of (d + 1) w' ≡ entry_of (tag_in t) a b (mode_in c) (saved_at w' d) ∷ stack_of d w
     pushed w' q =
-        let e : entry_at w' d ≡ entry_of t a b c (saved_at w' d) = entry-stored w' (λ i lt. ap (λ (l : List ℕ). get_or l i 0) q) in
+        let e : entry_at w' d ≡ entry_of (tag_in t) a b (mode_in c) (saved_at w' d) = entry-stored w' (λ i lt. ap (λ (l : List ℕ). get_or l i 0) q) in
         let r : stack_of d w' ≡ stack_of d w = stack_same d w w' (rw q (stored words refl)) in
         rw (add-one, e, r)
 
-    -- the same with what a trial saved stored behind
-    pub pushed-trial : (v : SavedWords) (w₁ w₂ : List ℕ) → w₁ ≡ sets w (d * entry_words) words
-        → w₂ ≡ sets w₁ (saved_from + d * saved_words) (v.page.column.0 ∷ v.page.used ∷ v.page.events ∷ v.past ∷ [])
-        → length w₁ ≡ length w → stack_of (d + 1) w₂ ≡ entry_of t a b c (saved_of v) ∷ stack_of d w
-    pushed-trial v w₁ w₂ e₁ e₂ len =
+    -- the same with what a trial saved stored behind, its flag as the word o
+    saved-stored : (v : SavedWords) (o : ℕ) (w₁ w₂ : List ℕ) → flag_of o ≡ v.past → w₁ ≡ sets w (d * entry_words) words
+        → w₂ ≡ sets w₁ (saved_from + d * saved_words) (v.page.column.0 ∷ v.page.used ∷ v.page.events ∷ o ∷ [])
+        → length w₁ ≡ length w → stack_of (d + 1) w₂ ≡ entry_of (tag_in t) a b (mode_in c) (saved_of v) ∷ stack_of d w
+    saved-stored v o w₁ w₂ eo e₁ e₂ len =
         let at = saved_from + d * saved_words in
-        let vs : List ℕ = v.page.column.0 ∷ v.page.used ∷ v.page.events ∷ v.past ∷ [] in
+        let vs : List ℕ = v.page.column.0 ∷ v.page.used ∷ v.page.events ∷ o ∷ [] in
         let other : (i : ℕ) → i < at → get_or w₂ i 0 ≡ get_or w₁ i 0 =
         λ i lt. ap (λ (l : List ℕ). get_or l i 0) e₂ ∙ sets-other vs w₁ at i (λ le. absurd (omega arith)) in
         let back : (k : ℕ) → k < 4 → get_or w₂ (at + k) 0 ≡ get_or vs k 0 =
         λ k lt. ap (λ (l : List ℕ). get_or l (at + k) 0) e₂ ∙ sets_at vs w₁ at k (omega arith) lt in
         let first : get_or w₂ at 0 ≡ v.page.column.0 = rw add-zero at (back 0 (omega arith)) in
-        let e : entry_at w₂ d ≡ entry_of t a b c (saved_at w₂ d) =
+        let e : entry_at w₂ d ≡ entry_of (tag_in t) a b (mode_in c) (saved_at w₂ d) =
         entry-stored w₂ (λ i lt. other i (omega arith) ∙ ap (λ (l : List ℕ). get_or l i 0) e₁) in
-        let f : saved_at w₂ d ≡ saved_of v = rw (first, back 1 (omega arith), back 2 (omega arith), back 3 (omega arith)) in
+        let f : saved_at w₂ d ≡ saved_of v = rw (first, back 1 (omega arith), back 2 (omega arith), back 3 (omega arith), eo) in
         let below : Same d w₁ w₂ = record { entries = λ i lt. other i (omega arith); saved = λ i lt. other (saved_from + i) (omega arith) } in
         let h : stack_of d w₂ ≡ stack_of d w = stack_same d w w₂ (same_trans d w w₁ w₂ (rw e₁ (stored words refl)) below) in
         rw (add-one, h, e, f)
 
+  -- the three kinds of entry, with the words m and t of a mode and a tag
+  pub pushed_node : (due : Due) (w' : List ℕ) {m t : ℕ} → m ≡ mode_word due.mode → t ≡ tag_word Node
+      → w' ≡ sets w (d * entry_words) (due.node.0 ∷ due.indent.0 ∷ m ∷ t ∷ []) → stack_of (d + 1) w' ≡ top due ∷ stack_of d w
+  pushed_node due w' {m} {t} em et e = pushed due.node.0 due.indent.0 m t w' e ∙ rw (em, et, mode_back)
+
+  pub pushed_closing : (n l : ℕ) (w' : List ℕ) {t : ℕ} → t ≡ tag_word Closing
+      → w' ≡ sets w (d * entry_words) (n ∷ l ∷ 0 ∷ t ∷ []) → stack_of (d + 1) w' ≡ closing n l ∷ stack_of d w
+  pushed_closing n l w' {t} et e = pushed n l 0 t w' e ∙ rw et
+
+  pub pushed_trial : (second : Due) (v : SavedWords) (o : ℕ) (w₁ w₂ : List ℕ) {m t : ℕ} → m ≡ mode_word second.mode → t ≡ tag_word Trial
+      → flag_of o ≡ v.past → w₁ ≡ sets w (d * entry_words) (second.node.0 ∷ second.indent.0 ∷ m ∷ t ∷ [])
+      → w₂ ≡ sets w₁ (saved_from + d * saved_words) (v.page.column.0 ∷ v.page.used ∷ v.page.events ∷ o ∷ []) → length w₁ ≡ length w
+      → stack_of (d + 1) w₂ ≡ trial second.node.0 second.indent.0 (mode_of second.mode) (saved_of v) ∷ stack_of d w
+  pushed_trial second v o w₁ w₂ {m} {t} em et eo e₁ e₂ len =
+      saved-stored second.node.0 second.indent.0 m t v o w₁ w₂ eo e₁ e₂ len ∙ rw (em, et, mode_back)
+
 -- ---- the fit test's nodes
 
-items-set : (m k : ℕ) (w : List ℕ) (j v : ℕ) → fit_from + k ≤ j → items_of m k (set w j v) ≡ items_of m k w
+items-set : (m : Mode) (k : ℕ) (w : List ℕ) (j v : ℕ) → fit_from + k ≤ j → items_of m k (set w j v) ≡ items_of m k w
 items-set m zero w j v h = refl
 items-set m (suc k) w j v h =
     let e : get_or (set w j v) (fit_from + k) 0 ≡ get_or w (fit_from + k) 0 =
@@ -198,28 +239,55 @@ fit_pushed w k v h =
 
 -- ---- a search
 
--- an entry's tag, as far as it is looked for, is its word
-tag_word : (t n i m : ℕ) (s : Saved) (tag : ℕ) → tag < 2 → eqb (tag_of (entry_of t n i m s)) tag ≡ eqb t tag
-tag_word zero n i m s tag lt = refl
-tag_word (suc zero) n i m s tag lt = refl
-tag_word (suc (suc t)) n i m s tag lt =
-    ne_eqb 2 tag (λ (e : 2 ≡ tag). omega arith) ∙ sym (ne_eqb (suc (suc t)) tag (λ (e : suc (suc t) ≡ tag). omega arith))
+-- an entry has the tag that it was made by
+tag_kept : (t : Tag) (n i : ℕ) (m : Mode) (s : Saved) → tag_of (entry_of t n i m s) ≡ tag_word t
+tag_kept Node n i m s = refl
+tag_kept Trial n i m s = refl
+tag_kept Closing n i m s = refl
 
-pub from-none : (tag : ℕ) → from tag [] ≡ []
+-- the test of the entry at height h
+module _ (w : List ℕ) (h : ℕ) (tag : Tag) where
+  abbrev same_word : Bool
+  same_word = eqb (tag_of (entry_at w h)) (tag_word tag)
+
+  met : tag_in (tag_at w h) ≡ tag → same_word ≡ true
+  met e = eq-eqb _ _ (tag_kept (tag_in (tag_at w h)) _ _ _ (saved_at w h) ∙ ap tag_word e)
+
+  not_met : (tag_in (tag_at w h) ≡ tag → ⊥) → same_word ≡ false
+  not_met ne = ne_eqb _ _ (λ e. ne (tag_same _ _ (sym (tag_kept (tag_in (tag_at w h)) _ _ _ (saved_at w h)) ∙ e)))
+
+from-none : (tag : ℕ) → from tag [] ≡ []
 unfolding from
 from-none tag = refl
 
-pub from-here : (w : List ℕ) (d tag : ℕ) → tag < 2 → 0 < d → tag_at w (d - 1) ≡ tag → from tag (stack_of d w) ≡ stack_of d w
+from-here : (w : List ℕ) (h : ℕ) (tag : Tag) → tag_in (tag_at w h) ≡ tag → from (tag_word tag) (stack_of (suc h) w) ≡ stack_of (suc h) w
 unfolding from
-from-here w d tag lt some e =
-    let t : eqb (tag_of (entry_at w (d - 1))) tag ≡ true = tag_word (tag_at w (d - 1)) _ _ _ (saved_at w (d - 1)) tag lt ∙ eq-eqb _ _ e in
-    rw (stack_top w d some, t)
+from-here w h tag e = rw (met w h tag e)
 
-pub from-below : (w : List ℕ) (d tag : ℕ) → tag < 2 → 0 < d → (tag_at w (d - 1) ≡ tag → ⊥) → from tag (stack_of d w) ≡ from tag (stack_of (d - 1) w)
+from-below : (w : List ℕ) (h : ℕ) (tag : Tag) → (tag_in (tag_at w h) ≡ tag → ⊥) → from (tag_word tag) (stack_of (suc h) w) ≡ from (tag_word tag) (stack_of h w)
 unfolding from
-from-below w d tag lt some e =
-    let t : eqb (tag_of (entry_at w (d - 1))) tag ≡ false = tag_word (tag_at w (d - 1)) _ _ _ (saved_at w (d - 1)) tag lt ∙ ne_eqb _ _ e in
-    rw (stack_top w d some, t)
+from-below w h tag e = rw (not_met w h tag e)
+
+-- a search from D entries, of which it has looked at those from d on
+module _ (w : List ℕ) (D d : ℕ) (tag : Tag) (some : 0 < d) (left : from (tag_word tag) (stack_of D w) ≡ from (tag_word tag) (stack_of d w)) where
+  at_top : d ≡ suc (d - 1)
+  at_top = omega arith
+
+  pub nearest_here : d ≤ D → tag_in (tag_at w (d - 1)) ≡ tag → Nearest w D tag (Some (d - 1))
+  nearest_here le e =
+      record {
+        within = omega arith;
+        found = left ∙ ap (λ (k : ℕ). from (tag_word tag) (stack_of k w)) at_top ∙ from-here w (d - 1) tag e;
+        tagged = λ h same. let q : d - 1 ≡ h = cc in rw q at e;
+      }
+
+  pub nearest_below : (tag_in (tag_at w (d - 1)) ≡ tag → ⊥) → from (tag_word tag) (stack_of D w) ≡ from (tag_word tag) (stack_of (d - 1) w)
+  nearest_below ne = left ∙ ap (λ (k : ℕ). from (tag_word tag) (stack_of k w)) at_top ∙ from-below w (d - 1) tag ne
+
+pub nearest_none : (w : List ℕ) (D d : ℕ) (tag : Tag) → d ≤ 0 → from (tag_word tag) (stack_of D w) ≡ from (tag_word tag) (stack_of d w) → Nearest w D tag None
+nearest_none w D d tag le left =
+    let none : d ≡ 0 = omega arith in
+    record { within = omega arith; found = left ∙ rw none (from-none (tag_word tag)); tagged = λ h same. absurd (cc) }
 
 -- ---- what a search looks past makes no difference
 
@@ -253,11 +321,12 @@ from-give_up p left (closing n l ∷ w) = from-give_up p left w
 
 -- ---- the next waiting node
 
-module _ (w : List ℕ) (d r own : ℕ) (f : Nearest w d 0 r) where
-  pub indent_own : r ≡ 0 → own ≡ next_indent own (stack_of d w)
-  indent_own e = sym (sym (from-indent own (stack_of d w)) ∙ ap (next_indent own) f.found ∙ rw e)
+module _ (w : List ℕ) (d own : ℕ) where
+  pub indent_own : {r : Option ℕ} → Nearest w d Node r → r ≡ None → own ≡ next_indent own (stack_of d w)
+  indent_own f e = sym (sym (from-indent own (stack_of d w)) ∙ ap (next_indent own) f.found ∙ rw e)
 
-  pub indent-next : (r ≡ 0 → ⊥) → indent_at w (r - 1) ≡ next_indent own (stack_of d w)
-  indent-next ne =
-      let some : 0 < r = omega arith in
-      sym (sym (from-indent own (stack_of d w)) ∙ ap (next_indent own) (f.found ∙ node-top w r some (f.tagged some)))
+  pub indent-next : {r : Option ℕ} (h : ℕ) → Nearest w d Node r → r ≡ Some h → indent_at w h ≡ next_indent own (stack_of d w)
+  indent-next h f e =
+      let found : from 0 (stack_of d w) ≡ node (number_at w h) (indent_at w h) (mode_of (mode_in (mode_at w h))) ∷ stack_of h w =
+      f.found ∙ rw e (node_up w h (f.tagged h e)) in
+      sym (sym (from-indent own (stack_of d w)) ∙ ap (next_indent own) found)

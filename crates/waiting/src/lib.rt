@@ -13,7 +13,7 @@
 ghost use Rattle.std.specs.Prelude.{◌≡◌, [], ◌∷◌, ◌+◌, ◌*◌, ◌≤◌, ◌<◌, length, get_or};
 ghost use Rattle.std.proofs.lemmas.List.Edits.{sets};
 ghost use Rattle.machine.specs.Waiting.{trial, closing, next_indent};
-ghost use Rattle.waiting.specs.Area.{area_words, fit_from, tag_at, number_at, indent_at, due_at, saved_words_at};
+ghost use Rattle.waiting.specs.Area.{area_words, fit_from, mode_in, mode_word, tag_in, tag_word, tag_at, number_at, indent_at, due_at, saved_words_at};
 ghost use Rattle.waiting.specs.Stack.{mode_of, saved_of, top, stack_of, FitPushed, Nearest};
 
 use machine::PLACES;
@@ -30,16 +30,57 @@ const SAVED: usize = PLACES * ENTRY_WORDS;
 
 const FIT: usize = SAVED + PLACES * SAVED_WORDS;
 
-// The tags of the entries: a node, the end of a trial, the end of an annotation.
-pub const NODE: u32 = 0;
+// What an entry is: a node, the end of a trial, the end of an annotation.
+#[derive(Clone, Copy, PartialEq, Eq)]
+pub enum Tag {
+    Node,
+    Trial,
+    Closing,
+}
 
-pub const TRIAL: u32 = 1;
-
-pub const CLOSING: u32 = 2;
-
-// 0 is broken, any other flat.
+// The mode that a node is read in.
 #[derive(Clone, Copy)]
-pub struct Mode(pub u32);
+pub enum Mode {
+    Broken,
+    Flat,
+}
+
+// A tag and a mode as a word of the work area.
+impl From<Tag> for u32 {
+    ghost from_gives = { λ tag word. word ≡ tag_word tag };
+
+    fn from(tag: Tag) -> u32 {
+        tag as u32
+    }
+}
+
+impl From<u32> for Tag {
+    ghost from_gives = { λ word tag. tag ≡ tag_in word };
+
+    fn from(word: u32) -> Tag {
+        match word {
+            0 => Tag::Node,
+            1 => Tag::Trial,
+            _ => Tag::Closing,
+        }
+    }
+}
+
+impl From<Mode> for u32 {
+    ghost from_gives = { λ mode word. word ≡ mode_word mode };
+
+    fn from(mode: Mode) -> u32 {
+        mode as u32
+    }
+}
+
+impl From<u32> for Mode {
+    ghost from_gives = { λ word mode. mode ≡ mode_in word };
+
+    fn from(word: u32) -> Mode {
+        if word == 0 { Mode::Broken } else { Mode::Flat }
+    }
+}
 
 // A node that is due, or that will be when it is taken up, with its indentation and mode.
 #[derive(Clone, Copy)]
@@ -49,24 +90,21 @@ pub struct Due {
     pub mode: Mode,
 }
 
-// What a trial saves: the page, and whether a Text had ended past width (0 is no).
+// What a trial saves: the page, and whether a Text had ended past width.
 #[derive(Clone, Copy)]
 pub struct Saved {
     pub page: Page,
-    pub past: u32,
+    pub past: bool,
 }
 
 // ---- pushes
 
 // Four words from `at` on.
-fn put_words(work: &mut [u32], at: usize, first: u32, second: u32, third: u32, fourth: u32)
+fn put_words(work: &mut [u32], at: usize, words: [u32; 4])
     requires { at + 4 ≤ length work.old }
-    ensures { work.new ≡ sets work.old at (first ∷ second ∷ third ∷ fourth ∷ []) }
+    ensures { work.new ≡ sets work.old at words }
 {
-    work[at] = first;
-    work[at + 1] = second;
-    work[at + 2] = third;
-    work[at + 3] = fourth;
+    work[at..at + 4].copy_from_slice(&words);
 }
 
 // A node waits on top of `depth` entries.
@@ -74,13 +112,12 @@ pub fn push_node(work: &mut [u32], depth: usize, due: Due)
     requires { (depth < 1024) × (area_words ≤ length work.old) }
     ensures { stack_of (depth + 1) work.new ≡ top due ∷ stack_of depth work.old }
 {
+    let mode = u32::from(due.mode);
+    let tag = u32::from(Tag::Node);
     put_words(
         work,
         depth * ENTRY_WORDS,
-        due.node.0,
-        due.indent.0,
-        due.mode.0,
-        NODE,
+        [due.node.0, due.indent.0, mode, tag],
     );
 }
 
@@ -89,31 +126,29 @@ pub fn push_closing(work: &mut [u32], depth: usize, node: NodeNo, label: u32)
     requires { (depth < 1024) × (area_words ≤ length work.old) }
     ensures { stack_of (depth + 1) work.new ≡ closing node.0 label ∷ stack_of depth work.old }
 {
-    put_words(work, depth * ENTRY_WORDS, node.0, label, 0, CLOSING);
+    let tag = u32::from(Tag::Closing);
+    put_words(work, depth * ENTRY_WORDS, [node.0, label, 0, tag]);
 }
 
 // The end of a trial waits on top of `depth` entries, with its second arm and what it saved.
 pub fn push_trial(work: &mut [u32], depth: usize, second: Due, saved: Saved)
     requires { (depth < 1024) × (area_words ≤ length work.old) × (saved.page.used ≤ 65536) × (saved.page.events ≤ 4096) }
     ensures { stack_of (depth + 1) work.new
-        ≡ trial second.node.0 second.indent.0 (mode_of second.mode.0) (saved_of saved) ∷ stack_of depth work.old }
+        ≡ trial second.node.0 second.indent.0 (mode_of second.mode) (saved_of saved) ∷ stack_of depth work.old }
 {
+    let mode = u32::from(second.mode);
+    let tag = u32::from(Tag::Trial);
     put_words(
         work,
         depth * ENTRY_WORDS,
-        second.node.0,
-        second.indent.0,
-        second.mode.0,
-        TRIAL,
+        [second.node.0, second.indent.0, mode, tag],
     );
     let page = saved.page;
+    let past = u32::from(saved.past);
     put_words(
         work,
         SAVED + depth * SAVED_WORDS,
-        page.column.0,
-        page.used as u32,
-        page.events as u32,
-        saved.past,
+        [page.column.0, page.used as u32, page.events as u32, past],
     );
 }
 
@@ -136,11 +171,11 @@ pub fn fit_node(work: &[u32], count: usize) -> NodeNo
 }
 
 // The tag of the entry at height d.
-pub fn tag_at(work: &[u32], d: usize) -> u32
+pub fn tag_at(work: &[u32], d: usize) -> Tag
     requires { (d < 1024) × (area_words ≤ length work.now) }
-    ensures { result ≡ tag_at work.now d }
+    ensures { result ≡ tag_in (tag_at work.now d) }
 {
-    work[d * ENTRY_WORDS + 3]
+    Tag::from(work[d * ENTRY_WORDS + 3])
 }
 
 // The node of the entry at height d: what waits, a second arm, or the Annotated node.
@@ -168,15 +203,8 @@ pub fn due_at(work: &[u32], d: usize) -> Due
     Due {
         node: NodeNo(work[at]),
         indent: Indent(work[at + 1]),
-        mode: Mode(work[at + 2]),
+        mode: Mode::from(work[at + 2]),
     }
-}
-
-// A count that was saved as a word.
-fn count(word: u32) -> usize
-    ensures { result ≡ word }
-{
-    word as usize
 }
 
 // What the trial that ends at height d saved.
@@ -188,29 +216,28 @@ pub fn saved_at(work: &[u32], d: usize) -> Saved
     Saved {
         page: Page {
             column: Column(work[at]),
-            used: count(work[at + 1]),
-            events: count(work[at + 2]),
+            used: work[at + 1] as usize,
+            events: work[at + 2] as usize,
         },
-        past: work[at + 3],
+        past: work[at + 3] != 0,
     }
 }
 
 // ---- searches
 
-// One more than the height of the nearest entry below `depth` that has this tag, or 0.
-pub fn nearest(work: &[u32], depth: usize, tag: u32) -> usize
-    requires { (depth ≤ 1024) × (area_words ≤ length work.now) × (tag < 2) }
+// The height of the nearest entry below `depth` that has this tag.
+pub fn nearest(work: &[u32], depth: usize, tag: Tag) -> Option<usize>
+    requires { (depth ≤ 1024) × (area_words ≤ length work.now) }
     ensures { Nearest work.now depth tag result }
 {
     let mut d = depth;
     while 0 < d {
-        let below = d - 1;
-        if tag_at(work, below) == tag {
-            return d;
+        d -= 1;
+        if tag_at(work, d) == tag {
+            return Some(d);
         }
-        d = below;
     }
-    0
+    None
 }
 
 // The indentation of the next waiting node, else its own; ends of annotations and trials are looked past.
@@ -218,10 +245,8 @@ pub fn next_indent(work: &[u32], depth: usize, own: Indent) -> Indent
     requires { (depth ≤ 1024) × (area_words ≤ length work.now) }
     ensures { result.0 ≡ next_indent own.0 (stack_of depth work.now) }
 {
-    let d = nearest(work, depth, NODE);
-    if d == 0 {
-        return own;
+    match nearest(work, depth, Tag::Node) {
+        Some(d) => due_at(work, d).indent,
+        None => own,
     }
-    let next = due_at(work, d - 1);
-    next.indent
 }

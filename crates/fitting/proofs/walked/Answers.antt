@@ -1,9 +1,7 @@
-use mathlib.Core.Bool.{true≢false, false≢true}
-use mathlib.Core.Path.{sym, ◌∙◌}
+use mathlib.Core.Path.{◌∙◌}
 use native.Mathlib.Omega.{arith}
 use Rattle.fitting.proofs.Walk.{walk_start, count_small, area-kept, height-small, visit_asks, walk-due, walk_down, walk-done, walk_same, walk_yes, walk_no, walk_pop, walk_end, walk-next, walk_fitted}
 use Rattle.fitting.proofs.walked.Goals as goal
-use Rattle.fitting.proofs.walked.Goals.{in-Fits, in-Wide, in-Done+then-count-eq0+then-next-eq0}
 
 pub waiting-init : goal.waiting-init
 waiting-init c = walk_start _ c.requires
@@ -17,11 +15,11 @@ shape_of-work-then-steps-eq0 c = (c.down.invariant _ _ _ c.waiting.invariant).lo
 pub returns-then-steps-eq0 : goal.returns-then-steps-eq0
 returns-then-steps-eq0 c =
     let here = c.down.invariant _ _ _ c.waiting.invariant in
-    walk_fitted here.start.deep here.same (walk-due c.waiting.mode.0 c.down.count here c.if-steps-eq0.true)
+    walk_fitted here.start.deep here.same (walk-due c.waiting.mode c.down.count here c.if-steps-eq0.true)
 
 pub look-requires : goal.look-requires
 look-requires c =
-    let asks = visit_asks c.waiting.mode.0 c.down.count (c.down.invariant _ _ _ c.waiting.invariant) in
+    let asks = visit_asks c.waiting.mode c.down.count (c.down.invariant _ _ _ c.waiting.invariant) in
     record { node_in_bounds = asks.0; sound = asks.1.0; in_bounds = asks.1.1 }
 
 pub down-preserved-in-Down : goal.down-preserved-in-Down
@@ -33,7 +31,7 @@ pub fit_node-node-requires : goal.fit_node-node-requires
 fit_node-node-requires c =
     let here = c.down.invariant _ _ _ c.waiting.invariant in
     let count = c.down.count in
-    let mode = c.waiting.mode.0 in
+    let mode = c.waiting.mode in
     (omega (arith, count_small mode count here), area-kept mode count here c.look.auto.work)
 
 pub down-preserved : goal.down-preserved
@@ -43,62 +41,58 @@ down-preserved c =
     let past = walk-done _ _ here c.if-steps-eq0.false c.look.ensures c.look.auto.work _ c.in-Done.is in
     rw c.fit_node-node.ensures (walk_pop _ _ c.if-count-eq0.false past)
 
-pub nearest-next-requires : goal.nearest-next-requires
-nearest-next-requires c =
+pub nearest-requires : goal.nearest-requires
+nearest-requires c =
     let here = c.down.invariant _ _ _ c.waiting.invariant in
     let count = c.down.count in
-    let mode = c.waiting.mode.0 in
-    (height-small mode count here, area-kept mode count here c.look.auto.work, omega arith)
+    let mode = c.waiting.mode in
+    (height-small mode count here, area-kept mode count here c.look.auto.work)
 
 pub node_at-node-requires : goal.node_at-node-requires
 node_at-node-requires c =
     let here = c.down.invariant _ _ _ c.waiting.invariant in
     let count = c.down.count in
-    let mode = c.waiting.mode.0 in
-    (omega (arith, height-small mode count here, c.nearest-next.ensures.within), area-kept mode count here c.look.auto.work)
+    let mode = c.waiting.mode in
+    let below = rw c.in-Some.is at c.nearest.ensures.within in
+    (omega (arith, height-small mode count here, below), area-kept mode count here c.look.auto.work)
 
 pub waiting-smaller : goal.waiting-smaller
-waiting-smaller c = omega (arith, c.nearest-next.ensures.within)
+waiting-smaller c = rw c.in-Some.is at c.nearest.ensures.within
 
 pub waiting-preserved : goal.waiting-preserved
 waiting-preserved c =
     let here = c.down.invariant _ _ _ c.waiting.invariant in
     let past = walk-done _ _ here c.if-steps-eq0.false c.look.ensures c.look.auto.work _ c.in-Done.is in
-    let next = walk-next c.waiting.mode.0 _ c.if-count-eq0.true past c.nearest-next.ensures c.if-next-eq0.false in
+    let next = walk-next c.waiting.mode _ _ c.if-count-eq0.true past c.nearest.ensures c.in-Some.is in
     rw c.node_at-node.ensures next
 
-pub shape_of-work-then-fits : goal.shape_of-work-then-fits
-shape_of-work-then-fits c =
-    let here = c.down.invariant _ _ _ c.waiting.invariant in
-    c.look.auto.work ∙ here.long
+pub shape_of-work-in-Fits : goal.shape_of-work-in-Fits
+shape_of-work-in-Fits c = c.look.auto.work ∙ (c.down.invariant _ _ _ c.waiting.invariant).long
 
-pub returns-then-fits : goal.returns-then-fits
-returns-then-fits c =
+pub returns-in-Fits : goal.returns-in-Fits
+returns-in-Fits c =
     let here = c.down.invariant _ _ _ c.waiting.invariant in
     let step = c.look.ensures in
     let long = c.look.auto.work in
-    walk_fitted here.start.deep (walk_same _ _ here c.if-steps-eq0.false step long)
-    (elim c.match-look.branch [
-      | in-Fits w ↦ walk_yes _ _ here c.if-steps-eq0.false step long w.in-Fits.is
-      | in-Wide w ↦ absurd (false≢true (sym w.fits-is ∙ c.if-fits.true))
-      | in-Done+then-count-eq0+then-next-eq0 w ↦
-          let past = walk-done _ _ here c.if-steps-eq0.false step long _ w.in-Done.is in
-          walk_end c.waiting.mode.0 _ w.if-count-eq0.true past w.nearest-next.ensures w.if-next-eq0.true
-    ])
+    walk_fitted here.start.deep (walk_same _ _ here c.if-steps-eq0.false step long) (walk_yes _ _ here c.if-steps-eq0.false step long c.in-Fits.is)
 
-pub shape_of-work-else-fits : goal.shape_of-work-else-fits
-shape_of-work-else-fits c =
-    let here = c.down.invariant _ _ _ c.waiting.invariant in
-    c.look.auto.work ∙ here.long
+pub shape_of-work-in-Wide : goal.shape_of-work-in-Wide
+shape_of-work-in-Wide c = c.look.auto.work ∙ (c.down.invariant _ _ _ c.waiting.invariant).long
 
-pub returns-else-fits : goal.returns-else-fits
-returns-else-fits c =
+pub returns-in-Wide : goal.returns-in-Wide
+returns-in-Wide c =
     let here = c.down.invariant _ _ _ c.waiting.invariant in
     let step = c.look.ensures in
     let long = c.look.auto.work in
-    walk_fitted here.start.deep (walk_same _ _ here c.if-steps-eq0.false step long)
-    (elim c.match-look.branch [
-      | in-Fits w ↦ absurd (true≢false (sym w.fits-is ∙ c.if-fits.false))
-      | in-Wide w ↦ walk_no _ _ here c.if-steps-eq0.false step long w.in-Wide.is
-      | in-Done+then-count-eq0+then-next-eq0 w ↦ absurd (true≢false (sym w.fits-is ∙ c.if-fits.false))
-    ])
+    walk_fitted here.start.deep (walk_same _ _ here c.if-steps-eq0.false step long) (walk_no _ _ here c.if-steps-eq0.false step long c.in-Wide.is)
+
+pub shape_of-work-in_default : goal.shape_of-work-in_default
+shape_of-work-in_default c = c.look.auto.work ∙ (c.down.invariant _ _ _ c.waiting.invariant).long
+
+pub returns-in_default : goal.returns-in_default
+returns-in_default c =
+    let here = c.down.invariant _ _ _ c.waiting.invariant in
+    let step = c.look.ensures in
+    let long = c.look.auto.work in
+    let past = walk-done _ _ here c.if-steps-eq0.false step long _ c.in-Done.is in
+    walk_fitted here.start.deep (walk_same _ _ here c.if-steps-eq0.false step long) (walk_end c.waiting.mode _ c.if-count-eq0.true past c.nearest.ensures c.in_default.is)

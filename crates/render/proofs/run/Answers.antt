@@ -30,42 +30,42 @@ turn-requires c =
 
 pub loop-s-smaller : goal.loop-s-smaller
 loop-s-smaller c =
-    going_less c.loop-s.invariant c.if-s-eq0.false c.turn.ensures c.turn.auto.out c.turn.auto.events c.turn.auto.work c.in-Go.is
+    going_less c.loop-s.invariant c.if-s-eq0.false c.turn.ensures c.turn.auto.out c.turn.auto.events c.turn.auto.work (rw c.in-Ok-Go.field-0-is at c.in-Ok-Go.is)
 
 pub loop-s-preserved : goal.loop-s-preserved
 loop-s-preserved c =
-    going_on c.loop-s.invariant c.if-s-eq0.false c.turn.ensures c.turn.auto.out c.turn.auto.events c.turn.auto.work c.in-Go.is
+    going_on c.loop-s.invariant c.if-s-eq0.false c.turn.ensures c.turn.auto.out c.turn.auto.events c.turn.auto.work (rw c.in-Ok-Go.field-0-is at c.in-Ok-Go.is)
 
 pub overflow_cast-result : goal.overflow_cast-result
 overflow_cast-result c =
-    omega (arith, (done-small c.loop-s.invariant c.if-s-eq0.false c.turn.ensures c.turn.auto.out c.turn.auto.events c.turn.auto.work c.in-Done.is).0)
+    omega (arith, (done-small c.loop-s.invariant c.if-s-eq0.false c.turn.ensures c.turn.auto.out c.turn.auto.events c.turn.auto.work (rw c.in-Ok-Done.field-0-is at c.in-Ok-Done.is)).0)
 
-pub overflow_cast-result-in-Done : goal.overflow_cast-result-in-Done
-overflow_cast-result-in-Done c =
-    omega (arith, (done-small c.loop-s.invariant c.if-s-eq0.false c.turn.ensures c.turn.auto.out c.turn.auto.events c.turn.auto.work c.in-Done.is).1)
+pub overflow_cast-result-in-Ok-Done : goal.overflow_cast-result-in-Ok-Done
+overflow_cast-result-in-Ok-Done c =
+    omega (arith, (done-small c.loop-s.invariant c.if-s-eq0.false c.turn.ensures c.turn.auto.out c.turn.auto.events c.turn.auto.work (rw c.in-Ok-Done.field-0-is at c.in-Ok-Done.is)).1)
 
-pub shape_of-out-in-Done : goal.shape_of-out-in-Done
-shape_of-out-in-Done c = c.turn.auto.out ∙ c.loop-s.invariant.outs
+pub shape_of-out-in-Ok-Done : goal.shape_of-out-in-Ok-Done
+shape_of-out-in-Ok-Done c = c.turn.auto.out ∙ c.loop-s.invariant.outs
 
-pub shape_of-events-in-Done : goal.shape_of-events-in-Done
-shape_of-events-in-Done c = c.turn.auto.events ∙ c.loop-s.invariant.evs
+pub shape_of-events-in-Ok-Done : goal.shape_of-events-in-Ok-Done
+shape_of-events-in-Ok-Done c = c.turn.auto.events ∙ c.loop-s.invariant.evs
 
-pub shape_of-work-in-Done : goal.shape_of-work-in-Done
-shape_of-work-in-Done c = c.turn.auto.work ∙ c.loop-s.invariant.works
+pub shape_of-work-in-Ok-Done : goal.shape_of-work-in-Ok-Done
+shape_of-work-in-Ok-Done c = c.turn.auto.work ∙ c.loop-s.invariant.works
 
-pub returns-in-Done : goal.returns-in-Done
-returns-in-Done c =
-    ran-done c.loop-s.invariant c.if-s-eq0.false c.turn.ensures c.turn.auto.out c.turn.auto.events c.turn.auto.work c.in-Done.is
+pub returns-in-Ok-Done : goal.returns-in-Ok-Done
+returns-in-Ok-Done c =
+    ran-done c.loop-s.invariant c.if-s-eq0.false c.turn.ensures c.turn.auto.out c.turn.auto.events c.turn.auto.work (rw c.in-Ok-Done.field-0-is at c.in-Ok-Done.is)
 
-pub shape_of-out-in-Stop : goal.shape_of-out-in-Stop
-shape_of-out-in-Stop c = c.turn.auto.out ∙ c.loop-s.invariant.outs
+pub shape_of-out-in-Err : goal.shape_of-out-in-Err
+shape_of-out-in-Err c = c.turn.auto.out ∙ c.loop-s.invariant.outs
 
-pub shape_of-events-in-Stop : goal.shape_of-events-in-Stop
-shape_of-events-in-Stop c = c.turn.auto.events ∙ c.loop-s.invariant.evs
+pub shape_of-events-in-Err : goal.shape_of-events-in-Err
+shape_of-events-in-Err c = c.turn.auto.events ∙ c.loop-s.invariant.evs
 
-pub shape_of-work-in-Stop : goal.shape_of-work-in-Stop
-shape_of-work-in-Stop c = c.turn.auto.work ∙ c.loop-s.invariant.works
+pub shape_of-work-in-Err : goal.shape_of-work-in-Err
+shape_of-work-in-Err c = c.turn.auto.work ∙ c.loop-s.invariant.works
 
-pub returns-in-Stop : goal.returns-in-Stop
-returns-in-Stop c =
-    ran-stop c.loop-s.invariant c.if-s-eq0.false c.turn.ensures c.turn.auto.out c.turn.auto.events c.turn.auto.work c.in-Stop.is
+pub returns-in-Err : goal.returns-in-Err
+returns-in-Err c =
+    ran-stop c.loop-s.invariant c.if-s-eq0.false c.turn.ensures c.turn.auto.out c.turn.auto.events c.turn.auto.work c.in-Err.is

@@ -4,6 +4,6 @@ use mathlib.Core.Path.{sym, ◌∙◌}
 use Rattle.render.proofs.Rising.{rise-start, rise-node}
 use Rattle.render.proofs.take_up.Goals as goal
 
-pub returns-then-tag_at-eq-NODE : goal.returns-then-tag_at-eq-NODE
-returns-then-tag_at-eq-NODE c =
-    rise-node (rise-start _ _ _ c.requires) c.if-state-gt0.true _ (sym c.tag_at.ensures ∙ c.if-tag_at-eq-NODE.true) c.due_at.ensures
+pub returns-in-Node : goal.returns-in-Node
+returns-in-Node c =
+    rise-node (rise-start _ _ _ c.requires) c.if-state-gt0.true _ (sym c.tag_at.ensures ∙ c.in-Node.is) c.due_at.ensures

@@ -6,22 +6,22 @@ use Rattle.render.proofs.take_up_ends.Goals as goal
 pub loop-s-init : goal.loop-s-init
 loop-s-init c = rise-start _ _ _ c.requires
 
-pub shape_of-events-then-tag-eq-NODE : goal.shape_of-events-then-tag-eq-NODE
-shape_of-events-then-tag-eq-NODE c = c.loop-s.invariant.long
+pub shape_of-events-in-Node : goal.shape_of-events-in-Node
+shape_of-events-in-Node c = c.loop-s.invariant.long
 
-pub returns-then-tag-eq-NODE : goal.returns-then-tag-eq-NODE
-returns-then-tag-eq-NODE c =
+pub returns-in-Node : goal.returns-in-Node
+returns-in-Node c =
     let here = c.loop-s.invariant in
-    rise-node here c.loop-s-test.true _ (sym c.tag_at-tag.ensures ∙ c.if-tag-eq-NODE.true) c.due_at.ensures
+    rise-node here c.loop-s-test.true _ (sym c.tag_at.ensures ∙ c.in-Node.is) c.due_at.ensures
 
-pub shape_of-events-then-s-ne0 : goal.shape_of-events-then-s-ne0
-shape_of-events-then-s-ne0 c = c.loop-s.invariant.long
+pub shape_of-events-then-s : goal.shape_of-events-then-s
+shape_of-events-then-s c = c.loop-s.invariant.long
 
-pub returns-then-s-ne0 : goal.returns-then-s-ne0
-returns-then-s-ne0 c =
+pub returns-then-s : goal.returns-then-s
+returns-then-s c =
     let here = c.loop-s.invariant in
-    rise_give here c.loop-s-test.true _ _ _ (sym c.tag_at-tag.ensures ∙ c.if-tag-eq-TRIAL.true) c.if-s-ne0.true
-    c.due_at-then-s-ne0.ensures
+    rise_give here c.loop-s-test.true _ _ _ (sym c.tag_at.ensures ∙ c.in-Trial.is) c.if-s.true
+    c.due_at-then-s.ensures
     c.saved_at-saved.ensures
     c.restored.ensures
 
@@ -32,18 +32,18 @@ pub returns-in_default : goal.returns-in_default
 returns-in_default c =
     let here = c.loop-s.invariant in
     let event = rw c.label_at.ensures at c.note_event.ensures in
-    rise-full here c.loop-s-test.true (λ e. c.if-tag-eq-NODE.false (c.tag_at-tag.ensures ∙ e)) (λ e. c.if-tag-eq-TRIAL.false (c.tag_at-tag.ensures ∙ e)) event c.note_event.auto.events _ c.node_at.ensures c.in_default.is
+    rise-full here c.loop-s-test.true (sym c.tag_at.ensures ∙ c.in-Closing.is) event c.note_event.auto.events _ c.node_at.ensures c.in_default.is
 
-pub loop-s-preserved-else-s-ne0 : goal.loop-s-preserved-else-s-ne0
-loop-s-preserved-else-s-ne0 c =
+pub loop-s-preserved-else-s : goal.loop-s-preserved-else-s
+loop-s-preserved-else-s c =
     let here = c.loop-s.invariant in
-    rise_keep here c.loop-s-test.true _ (sym c.tag_at-tag.ensures ∙ c.if-tag-eq-TRIAL.true) (omega (arith, c.if-s-ne0.false)) c.saved_at-saved.ensures
+    rise_keep here c.loop-s-test.true _ (sym c.tag_at.ensures ∙ c.in-Trial.is) c.if-s.false c.saved_at-saved.ensures
 
 pub loop-s-preserved : goal.loop-s-preserved
 loop-s-preserved c =
     let here = c.loop-s.invariant in
     let event = rw c.label_at.ensures at c.note_event.ensures in
-    rise_close here c.loop-s-test.true (λ e. c.if-tag-eq-NODE.false (c.tag_at-tag.ensures ∙ e)) (λ e. c.if-tag-eq-TRIAL.false (c.tag_at-tag.ensures ∙ e)) event c.note_event.auto.events _ c.in-On.is
+    rise_close here c.loop-s-test.true (sym c.tag_at.ensures ∙ c.in-Closing.is) event c.note_event.auto.events _ c.in-Some.is
 
 pub shape_of-events : goal.shape_of-events
 shape_of-events c = c.loop-s.invariant.long

@@ -14,13 +14,13 @@ lay_append-requires c =
 pub lay_group-requires : goal.lay_group-requires
 lay_group-requires c = group-fits c.requires c.in-2.is
 
-pub nest_by-indent-requires : goal.nest_by-indent-requires
-nest_by-indent-requires c =
+pub nest_by-requires : goal.nest_by-requires
+nest_by-requires c =
     nest-fits c.requires c.in-4.is
 
 pub nests_down-row-requires : goal.nests_down-row-requires
 nests_down-row-requires c =
-    nest-held c.requires _ c.in-4.is c.nest_by-indent.ensures
+    nest-held c.requires _ c.in-4.is c.nest_by.ensures
 
 pub lay_hardline-requires : goal.lay_hardline-requires
 lay_hardline-requires c =
@@ -64,17 +64,17 @@ pub returns-in-2 : goal.returns-in-2
 returns-in-2 c =
     visit-kept c.requires 2 c.in-2.is c.lay_group.ensures (λ limit. refl)
 
-pub returns-then-mode-eq0 : goal.returns-then-mode-eq0
-returns-then-mode-eq0 c =
-    visit-broken c.requires _ c.in-3.is c.if-mode-eq0.true c.child_of.ensures
+pub returns-in-Broken : goal.returns-in-Broken
+returns-in-Broken c =
+    visit-broken c.requires _ c.in-3.is c.in-Broken.is c.child_of.ensures
 
-pub returns-else-mode-eq0 : goal.returns-else-mode-eq0
-returns-else-mode-eq0 c =
-    visit-flat c.requires _ c.in-3.is c.if-mode-eq0.false c.child_of-else-mode-eq0.ensures
+pub returns-in-Flat : goal.returns-in-Flat
+returns-in-Flat c =
+    visit-flat c.requires _ c.in-3.is c.in-Flat.is c.child_of-in-Flat.ensures
 
 pub returns-in-4 : goal.returns-in-4
 returns-in-4 c =
-    visit-nest c.requires _ c.in-4.is c.nest_by-indent.ensures _ c.nests_down-row.ensures
+    visit-nest c.requires _ c.in-4.is c.nest_by.ensures _ c.nests_down-row.ensures
 
 pub returns-in-5 : goal.returns-in-5
 returns-in-5 c =
@@ -94,7 +94,7 @@ returns-in-8 c =
 
 pub returns-in-9 : goal.returns-in-9
 returns-in-9 c =
-    visit-align c.requires _ c.in-9.is c.to_indent-indent.ensures
+    visit-align c.requires _ c.in-9.is c.to_indent.ensures
 
 pub returns-in_default : goal.returns-in_default
 returns-in_default c =

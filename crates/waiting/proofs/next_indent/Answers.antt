@@ -4,9 +4,9 @@ use mathlib.Core.Path.{ap, ◌∙◌}
 use Rattle.waiting.proofs.Laws.{indent_own, indent-next}
 use Rattle.waiting.proofs.next_indent.Goals as goal
 
-pub returns-then-d-eq0 : goal.returns-then-d-eq0
-returns-then-d-eq0 c = indent_own _ _ _ _ c.nearest-d.ensures c.if-d-eq0.true
+pub returns-in-Some : goal.returns-in-Some
+returns-in-Some c =
+    ap (λ due. due.indent.0) c.due_at.ensures ∙ indent-next _ _ _ _ c.nearest.ensures c.in-Some.is
 
-pub returns : goal.returns
-returns c =
-    ap (λ due. due.indent.0) c.due_at-next.ensures ∙ indent-next _ _ _ _ c.nearest-d.ensures c.if-d-eq0.false
+pub returns-in-None : goal.returns-in-None
+returns-in-None c = indent_own _ _ _ c.nearest.ensures c.in-None.is
