@@ -2,7 +2,7 @@
 //
 // The engine notes its events as words; the functions here are all that write records.
 // A record's size stands in one place, `rules::EVENT_WORDS` with `event_words` of rules' specs. A field more is that number, a field of `Event`, a
-// line of `none`, `clear` and `record_at`, and one of `none`, `event_at` and `record_of` in specs/.
+// line of `none` and `record_at`, and one of `none`, `event_at` and `record_of` in specs/.
 
 #![tactic(auto)]
 
