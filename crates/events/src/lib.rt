@@ -2,17 +2,18 @@
 //
 // The engine notes its events as words; the functions here are all that write records.
 // A record's size stands in one place, `rules::EVENT_WORDS` with `event_words` of rules' specs. A field more is that number, a field of `Event`, a
-// line of `none`, `clear` and `record_at`, and one of `none`, `event_at` and `record_of` in specs/.
+// line of `none` and `record_at`, and one of `none`, `event_at` and `record_of` in specs/.
 
 #![tactic(auto)]
 
 ghost use Rattle.std.specs.Prelude.{◌≡◌, length, set, replicate};
+ghost use Rattle.layout.specs.Called.{report_of};
 ghost use Rattle.events.specs.Records.{none, record_at, published, most};
 ghost use Rattle.events.specs.Called.{asked, Called, called_with};
 
-use layout::Report;
+use layout::{Laid, Refused, Report};
 use rules::EVENT_WORDS;
-use table::NodeNo;
+use table::{NodeNo, Refusal};
 
 #[repr(C)]
 #[derive(Clone, Copy)]
@@ -88,22 +89,20 @@ fn staged(
     slots: usize,
     words: &mut [u32],
     work: &mut [u32],
-) -> Report
+) -> Result<Laid, Refused>
     requires { length words.old ≡ most }
     ensures { Called
         (asked table.now text.now width limit (length out.old) slots (length work.old))
-        result out.new (published words.new result.events slots) work.new }
+        (report_of result) out.new (published words.new (report_of result).events slots) work.new }
 {
     if RECORDS < slots {
         out.fill(0);
         work.fill(0);
-        return Report {
-            answer: 1,
+        return Err(Refused {
+            why: Refusal::BadSize,
             place: NodeNo(0),
             steps: 0,
-            used: 0,
-            events: 0,
-        };
+        });
     }
     let n = slots * EVENT_WORDS;
     layout::layout(table, text, width, limit, out, &mut words[..n], work)
@@ -118,15 +117,15 @@ pub fn layout(
     out: &mut [u8],
     events: &mut [Event],
     work: &mut [u32],
-) -> Report
+) -> Result<Laid, Refused>
     ensures { called_with
         table.now text.now width limit out.old events.old work.old
-        result out.new events.new work.new }
+        (report_of result) out.new events.new work.new }
 {
     let mut words = [0u32; WORDS];
     let slots = events.len();
-    let r = staged(table, text, width, limit, out, slots, &mut words, work);
-    let used = r.events;
-    publish(&words, used, events);
-    r
+    let answer = staged(table, text, width, limit, out, slots, &mut words, work);
+    let report = Report::from(answer);
+    publish(&words, report.events, events);
+    answer
 }

@@ -2,6 +2,7 @@
 --     Lawful       what a form owes: no event takes nothing, and events take their extent
 --     report-is    a report is its five numbers
 --     unique       two outcomes for the same inputs are equal: the report and every lent buffer
+--     answer_told  and so are two answers with the same report
 --     demand_1     an answer of 0 to 9; lengths kept; blank past the used part, on a refusal all; the work area zero
 --     demand_3     two calls that differ by one law hand back the same answer, and in their buffers the same used bytes and events
 --     fed          every line feed in the output is a Hardline's
@@ -21,8 +22,12 @@ use Rattle.table.specs.Unfold.{tree, root}
 use Rattle.rules.proofs.Answers.{Answered}
 use Rattle.rules.proofs.Cleared.{padded-length, padded-none}
 use Rattle.rules.proofs.Demand3 as rules'
+use Rattle.std.specs.Prelude.{Result, Ok, Err}
+use Rattle.table.proofs.Refusals.{number_not-zero, number-injective}
+use Rattle.layout.specs.declared.Laid.{Laid}
+use Rattle.layout.specs.declared.Refused.{Refused}
 use Rattle.layout.specs.declared.Report.{Report}
-use Rattle.layout.specs.Called.{Form, held, Returned}
+use Rattle.layout.specs.Called.{report_of, Form, held, Returned}
 use Rattle.layout.specs.Demands.{Demand1, ByOneLaw, Unrefused, Demand3}
 
 pub record Lawful {A : Type 0} (form : Form A) : Type 0 where
@@ -43,6 +48,21 @@ unique p q = (
   p.records ∙ sym q.records,
   p.cleared ∙ sym q.cleared,
 )
+
+-- the numbers of an answer tell it
+pub answer_told : (x y : Result Laid Refused) → report_of x ≡ report_of y → x ≡ y
+answer_told (Ok x) (Ok y) e =
+    let steps : x.steps ≡ y.steps = ap (λ (r : Report). r.steps) e in
+    let used : x.used ≡ y.used = ap (λ (r : Report). r.used) e in
+    let events : x.events ≡ y.events = ap (λ (r : Report). r.events) e in
+    λ i. Ok (record { steps = steps i; used = used i; events = events i })
+answer_told (Ok x) (Err y) e = absurd (number_not-zero y.why (sym (ap (λ (r : Report). r.answer) e)))
+answer_told (Err x) (Ok y) e = absurd (number_not-zero x.why (ap (λ (r : Report). r.answer) e))
+answer_told (Err x) (Err y) e =
+    let why : x.why ≡ y.why = number-injective x.why y.why (ap (λ (r : Report). r.answer) e) in
+    let place : x.place.0 ≡ y.place.0 = ap (λ (r : Report). r.place.0) e in
+    let steps : x.steps ≡ y.steps = ap (λ (r : Report). r.steps) e in
+    λ i. Err (record { why = why i; place = record { 0 = place i }; steps = steps i })
 
 -- ---- a buffer of events
 

@@ -13,7 +13,14 @@ use lib.Seq.{length-take-le}
 use lib.Dec.{leb}
 use borrow.Author.Tests.{eq-eqb, ne_eqb, leb-true}
 use Rattle.buffer.specs.Run.{zeroed}
-use Rattle.table.specs.Fault.{Fault, fault, check}
+use Rattle.std.specs.Prelude.{Result, Ok, Err}
+use Rattle.table.specs.Fault.{Fault, check}
+use Rattle.table.specs.Parts.{Tells}
+use Rattle.table.specs.Refusal.{number}
+use Rattle.table.specs.declared.Fault.{Fault as Told}
+use Rattle.table.specs.declared.refusal.Refusal.{Refusal}
+use Rattle.table.specs.declared.refusal.Refusal.TheVariants.{BadSize}
+use Rattle.table.proofs.Refusals.{number_not-zero}
 use Rattle.table.specs.Unfold.{tree, root}
 use Rattle.table.specs.declared.NodeNo.{NodeNo}
 use Rattle.choice.proofs.Tests.{and-true}
@@ -25,11 +32,13 @@ use Rattle.machine.proofs.Rules.{layout_is}
 use Rattle.page.specs.Reading.{events_of}
 use Rattle.page.proofs.Events.{length-events}
 use Rattle.render.specs.Visit.{Start}
-use Rattle.std.specs.Prelude.{Result}
 use Rattle.lay.specs.declared.Stopped.{Stopped}
-use Rattle.render.specs.Best.{Laid, answer_of, place_of, left_of, used_of, noted_of}
+use Rattle.render.specs.Best as best
+use Rattle.render.specs.Best.{Laid}
 use Rattle.render.specs.declared.End.{End}
-use Rattle.layout.specs.Called.{lent, Called, Decided}
+use Rattle.layout.specs.Called.{lent, report_of, Called, Decided}
+use Rattle.layout.specs.declared.Laid.{Laid as Answer}
+use Rattle.layout.specs.declared.Refused.{Refused}
 use Rattle.layout.specs.declared.Report.{Report}
 use Rattle.layout.proofs.Words.{words-front}
 
@@ -51,22 +60,19 @@ call-run g e z = rw (e, eq-eqb _ _ z)
 
 -- ---- a refusal before any run
 
-abbrev refused : ℕ → NodeNo → Report
-refused a n = record { answer = a; place = n; steps = 0; used = 0; events = 0 }
-
-module _ {g : Given} {r : Report} {out noted : List ℕ} where
-  refusal-decided : (a : ℕ) (n : NodeNo) → r ≡ refused a n → call g ≡ refusal a n.0 → Decided g r out noted
+module _ {g : Given} {out noted : List ℕ} where
+  refusal-decided : (why : Refusal) (n : NodeNo) → call g ≡ refusal (number why) n.0 → Decided g (report_of (Err (record { why = why; place = n; steps = 0 }))) out noted
   unfolding events_of
-  refusal-decided a n is e = record { same = rw is (sym e); used = rw is (omega arith); events = rw is (omega arith) }
+  refusal-decided why n e = record { same = sym e; used = omega arith; events = omega arith }
 
-  pub sizes-decided : buffers_right g ≡ false → r ≡ refused 1 (record { 0 = 0 }) → Decided g r out noted
-  sizes-decided e is = refusal-decided 1 (record { 0 = 0 }) is (call_sizes g e)
+  pub sizes-decided : buffers_right g ≡ false → Decided g (report_of (Err (record { why = BadSize; place = record { 0 = 0 }; steps = 0 }))) out noted
+  sizes-decided e = refusal-decided BadSize (record { 0 = 0 }) (call_sizes g e)
 
-  pub fault-decided : (a : ℕ) (n : NodeNo) → buffers_right g ≡ true → fault a n.0 ≡ check g.table g.text → (a ≡ 0 → ⊥) → r ≡ refused a n → Decided g r out noted
-  fault-decided a n e told some is =
-      let answers : a ≡ (check g.table g.text).answer = ap (λ (f : Fault). f.answer) told in
-      let stands : n.0 ≡ (check g.table g.text).place = ap (λ (f : Fault). f.place) told in
-      refusal-decided a n is (call-fault g e (λ z. some (answers ∙ z)) ∙ rw (answers, stands))
+  pub fault-decided : (f : Told) → buffers_right g ≡ true → Tells (Err f) (check g.table g.text)
+      → Decided g (report_of (Err (record { why = f.why; place = f.place; steps = 0 }))) out noted
+  fault-decided f e tells =
+      let some : (check g.table g.text).answer ≡ 0 → ⊥ = λ z. number_not-zero f.why (ap (λ (f : Fault). f.answer) tells ∙ z) in
+      refusal-decided f.why f.place (call-fault g e some ∙ ap (λ (f : Fault). refusal f.answer f.place) (sym tells))
 
 -- ---- the run
 
@@ -132,15 +138,22 @@ module _ (l : Lent) (right : buffers_right (asks l) ≡ true) (sound : (check l.
         width = b.width;
       }
 
-  pub run-decided : {r : Result End Stopped} {out' noted' : List ℕ} → Laid l.table l.text l.out l.noted l.width l.limit (nodes l) r out' noted'
-      → Decided (asks l) (record { answer = answer_of r; place = record { 0 = place_of r }; steps = l.limit - left_of r; used = used_of r; events = noted_of r }) out' noted'
-  run-decided laid =
+  -- a run's end, with the steps taken in place of those left
+  abbrev ended : Result End Stopped → Result Answer Refused
+  ended (Ok e) = Ok (record { steps = l.limit - e.left; used = e.used; events = e.events })
+  ended (Err e) = Err (record { why = e.why; place = e.place; steps = l.limit - e.left })
+
+  pub run-decided : (r : Result End Stopped) {out' noted' : List ℕ} → Laid l.table l.text l.out l.noted l.width l.limit (nodes l) r out' noted'
+      → Decided (asks l) (report_of (ended r)) out' noted'
+  run-decided r laid =
       let s = start_of in
-      record {
-        same = laid.same ∙ layout_is l.table l.text (limits (asks l)) (nodes l) s.some s.small s.valid s.room ∙ sym (call-run (asks l) right sound);
-        used = laid.used;
-        events = laid.events;
-      }
+      let same = laid.same ∙ layout_is l.table l.text (limits (asks l)) (nodes l) s.some s.small s.valid s.room ∙ sym (call-run (asks l) right sound) in
+      by r laid same
+    where
+      by : (r : Result End Stopped) {out' noted' : List ℕ} → Laid l.table l.text l.out l.noted l.width l.limit (nodes l) r out' noted'
+          → best.report_of l.limit r out' noted' ≡ call (asks l) → Decided (asks l) (report_of (ended r)) out' noted'
+      by (Ok e) laid same = record { same = same; used = laid.used; events = laid.events }
+      by (Err e) laid same = record { same = same; used = laid.used; events = laid.events }
 
 -- ---- the buffers
 

@@ -1,10 +1,13 @@
 -- What a public call promises: its numbers and every lent buffer afterwards are those of the rules' definition of a call.
--- In order: the defaults; what a call is given; the promise, whatever its events are lent as; the same over words; what stands before the buffers
+-- In order: the defaults; what a call is given; an answer by its numbers; the promise, whatever its events are lent as; the same over words; what stands before the buffers
 -- are cleared.
-use Rattle.std.specs.Prelude.{◌≡◌, ℕ, ◌-◌, ◌*◌, ◌/◌, ◌≤◌, List, ◌++◌, length, take, replicate}
+use Rattle.std.specs.Prelude.{◌≡◌, ℕ, ◌-◌, ◌*◌, ◌/◌, ◌≤◌, Result, Ok, Err, List, ◌++◌, length, take, replicate}
 use Rattle.rules.specs.Layout as rules
 use Rattle.rules.specs.Call.{Given, call, event_words, words_of, padded}
 use Rattle.page.specs.Reading.{events_of}
+use Rattle.table.specs.Refusal.{number}
+use Rattle.layout.specs.declared.Laid.{Laid}
+use Rattle.layout.specs.declared.Refused.{Refused}
 use Rattle.layout.specs.declared.Report.{Report}
 
 -- ---- the routines that take no width
@@ -29,6 +32,12 @@ given table text width limit out events work =
 -- the same with the three buffers themselves
 abbrev pub lent : List ℕ → List ℕ → ℕ → ℕ → List ℕ → List ℕ → List ℕ → Given
 lent table text width limit out events work = given table text width limit (length out) (length events) (length work)
+
+-- ---- what it answers, by document 01's numbers: a refusal uses nothing
+
+abbrev pub report_of : Result Laid Refused → Report
+report_of (Ok laid) = record { answer = 0; place = record { 0 = 0 }; steps = laid.steps; used = laid.used; events = laid.events }
+report_of (Err refused) = record { answer = number refused.why; place = refused.place; steps = refused.steps; used = 0; events = 0 }
 
 -- ---- what it hands back, whatever its events are lent as
 

@@ -1,6 +1,6 @@
 // The public calls: a layout at any width, the whole sheet, and the row label.
 //
-// No public function has a `requires`: any table, text, width, limit and buffers get a numbered answer, and the call ends. The table and the
+// No public function has a `requires`: any table, text, width, limit and buffers get an answer, and the call ends. The table and the
 // text are only read. A refusal leaves every byte of the output and every event zero; what is past the used part is zero after answer 0 too;
 // the work area is zero after every call. An event is `rules::EVENT_WORDS` words: offset, mark (1 opens, 0 closes), label.
 
@@ -8,10 +8,10 @@
 
 ghost use Rattle.std.specs.Prelude.{◌≡◌, []};
 ghost use Rattle.rules.specs.Call.{buffers_right};
-ghost use Rattle.layout.specs.Called.{given, lent, Decided, called_with, default_width, label_width, default_steps};
+ghost use Rattle.layout.specs.Called.{given, lent, report_of, Decided, called_with, default_width, label_width, default_steps};
 
 use rules::EVENT_WORDS;
-use table::NodeNo;
+use table::{Fault, NodeNo, Refusal};
 
 // The whole sheet's width in columns.
 pub const DEFAULT_WIDTH: u32 = 42;
@@ -22,7 +22,36 @@ pub const LABEL_WIDTH: u32 = 42;
 // The step limit of both.
 pub const DEFAULT_STEPS: u32 = 1000000;
 
-// What a call answers: the answer's number and its place, the steps, and how many bytes and events are used.
+// A document is laid out: the steps, and how many bytes and events are used.
+#[derive(Clone, Copy)]
+pub struct Laid {
+    pub steps: u32,
+    pub used: u32,
+    pub events: u32,
+}
+
+// A call is refused: why, the place of it, and the steps until then. Nothing is used.
+#[derive(Clone, Copy)]
+pub struct Refused {
+    pub why: Refusal,
+    pub place: NodeNo,
+    pub steps: u32,
+}
+
+// A table with a fault is refused before any step.
+impl From<Fault> for Refused {
+    ghost from_gives = { λ fault refused. refused ≡ record { why = fault.why; place = fault.place; steps = 0 } };
+
+    fn from(fault: Fault) -> Refused {
+        Refused {
+            why: fault.why,
+            place: fault.place,
+            steps: 0,
+        }
+    }
+}
+
+// The same in document 01's numbers: the answer and its place, the steps, and how many bytes and events are used.
 #[derive(Clone, Copy)]
 pub struct Report {
     pub answer: u32,
@@ -30,6 +59,29 @@ pub struct Report {
     pub steps: u32,
     pub used: u32,
     pub events: u32,
+}
+
+impl From<Result<Laid, Refused>> for Report {
+    ghost from_gives = { λ answer report. report ≡ report_of answer };
+
+    fn from(answer: Result<Laid, Refused>) -> Report {
+        match answer {
+            Ok(laid) => Report {
+                answer: 0,
+                place: NodeNo(0),
+                steps: laid.steps,
+                used: laid.used,
+                events: laid.events,
+            },
+            Err(refused) => Report {
+                answer: u32::from(refused.why),
+                place: refused.place,
+                steps: refused.steps,
+                used: 0,
+                events: 0,
+            },
+        }
+    }
 }
 
 // Whether the buffers, the width and the limit are within their bounds.
@@ -43,19 +95,6 @@ pub fn buffers_right(out: usize, events: usize, work: usize, width: u32, limit: 
         & (limit <= 100000000)
 }
 
-// A refusal before any run: nothing is used and no step is taken.
-fn refused(answer: u32, place: NodeNo) -> Report
-    ensures { result ≡ record { answer = answer; place = place; steps = 0; used = 0; events = 0 } }
-{
-    Report {
-        answer,
-        place,
-        steps: 0,
-        used: 0,
-        events: 0,
-    }
-}
-
 // The answer, with the buffers as the run left them.
 fn decide(
     table: &[u32],
@@ -65,33 +104,31 @@ fn decide(
     out: &mut [u8],
     events: &mut [u32],
     work: &mut [u32],
-) -> Report
+) -> Result<Laid, Refused>
     ensures { Decided
         (lent table.now text.now width limit out.old events.old work.old)
-        result out.new events.new }
+        (report_of result) out.new events.new }
 {
     if !buffers_right(out.len(), events.len(), work.len(), width, limit) {
-        return refused(1, NodeNo(0));
+        return Err(Refused {
+            why: Refusal::BadSize,
+            place: NodeNo(0),
+            steps: 0,
+        });
     }
-    if let Err(fault) = table::validate(table, text) {
-        return refused(u32::from(fault.why), fault.place);
-    }
+    table::validate(table, text)?;
     let nodes = (table.len() / 4) as u32;
     match render::best(table, text, out, events, work, width, limit, nodes) {
-        Ok(end) => Report {
-            answer: 0,
-            place: NodeNo(0),
+        Ok(end) => Ok(Laid {
             steps: limit - end.left,
             used: end.used,
             events: end.events,
-        },
-        Err(stopped) => Report {
-            answer: u32::from(stopped.why),
+        }),
+        Err(stopped) => Err(Refused {
+            why: stopped.why,
             place: stopped.place,
             steps: limit - stopped.left,
-            used: 0,
-            events: 0,
-        },
+        }),
     }
 }
 
@@ -104,18 +141,19 @@ pub fn layout(
     out: &mut [u8],
     events: &mut [u32],
     work: &mut [u32],
-) -> Report
+) -> Result<Laid, Refused>
     ensures { called_with
         table.now text.now width limit out.old events.old work.old
-        result out.new events.new work.new }
+        (report_of result) out.new events.new work.new }
 {
-    let report = decide(table, text, width, limit, out, events, work);
+    let answer = decide(table, text, width, limit, out, events, work);
+    let report = Report::from(answer);
     let used = report.used as usize;
-    let words = (report.events as usize) * EVENT_WORDS;
+    let words = report.events as usize * EVENT_WORDS;
     buffer::fill_from(out, used, 0);
     buffer::fill_from(events, words, 0);
     buffer::clear_dirty_words(work);
-    report
+    answer
 }
 
 // The whole sheet, at the default width and step limit.
@@ -125,10 +163,10 @@ pub fn sheet(
     out: &mut [u8],
     events: &mut [u32],
     work: &mut [u32],
-) -> Report
+) -> Result<Laid, Refused>
     ensures { called_with
         table.now text.now default_width default_steps out.old events.old work.old
-        result out.new events.new work.new }
+        (report_of result) out.new events.new work.new }
 {
     layout(table, text, DEFAULT_WIDTH, DEFAULT_STEPS, out, events, work)
 }
@@ -140,10 +178,10 @@ pub fn label(
     out: &mut [u8],
     events: &mut [u32],
     work: &mut [u32],
-) -> Report
+) -> Result<Laid, Refused>
     ensures { called_with
         table.now text.now label_width default_steps out.old events.old work.old
-        result out.new events.new work.new }
+        (report_of result) out.new events.new work.new }
 {
     layout(table, text, LABEL_WIDTH, DEFAULT_STEPS, out, events, work)
 }

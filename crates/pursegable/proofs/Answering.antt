@@ -1,15 +1,11 @@
 -- An export's answer from the call that it makes: with a report shorter than five words that call's limit is out of range, so it answers 1.
---     exported               what the call promises, with the report told, is what the export promises
---     told_none, told-set    filling the report
+--     exported    what the call promises, with the report told, is what the export promises
 -- Assumes nothing.
-use mathlib.Core.Path.{◌≡◌, refl, sym, ap, ◌∙◌}
+use mathlib.Core.Path.{◌≡◌, refl, ap, ◌∙◌}
 use mathlib.Core.Bool.{Bool, true, false, ◌&&◌}
-use mathlib.Core.List.{List, [], ◌∷◌}
-use Prim.Native.Nat.{ℕ, suc, ◌-◌, ◌<◌, ◌≤◌}
-use native.Mathlib.Omega.{arith}
-use borrow.Author.Tests.{lt-leb, le-leb}
+use mathlib.Core.List.{List}
+use Prim.Native.Nat.{ℕ}
 use lib.Dec.{leb}
-use lib.ListN.{length, set, replicate, length-replicate}
 use Rattle.choice.specs.Pick.{pick}
 use Rattle.rules.specs.Layout as rules
 use Rattle.rules.specs.Call.{Given, refusal, call, padded}
@@ -50,18 +46,3 @@ exported form g n size limit {r} l c is-told =
       cleared = c.cleared;
       report-holds = is-told ∙ ap (λ (l : List ℕ). told l n) same ∙ ap (λ (x : rules.Report). told (five x) n) e;
     }
-
--- ---- filling the report
-
-pub told_none : (l : List ℕ) (n : ℕ) (words : List ℕ) → l ≡ replicate n 0 → length l < report_words → l ≡ told words n
-told_none l n words e h =
-    let m : length l ≡ n = ap length e ∙ length-replicate n 0 in
-    e ∙ ap (λ (b : Bool). pick b (padded words n) (replicate n 0)) (sym (lt-leb report_words n (omega arith)))
-
-pub told-set : (l : List ℕ) (n a p s u m : ℕ) → l ≡ replicate n 0 → report_words ≤ length l
-    → set (set (set (set (set l 0 a) 1 p) 2 s) 3 u) 4 m ≡ told (a ∷ p ∷ s ∷ u ∷ m ∷ []) n
-told-set l n a p s u m e h =
-    let long : length l ≡ n = ap length e ∙ length-replicate n 0 in
-    let k : suc (suc (suc (suc (suc (n - report_words))))) ≡ n = omega arith in
-    ap (λ (x : List ℕ). set (set (set (set (set x 0 a) 1 p) 2 s) 3 u) 4 m) (e ∙ ap (λ (i : ℕ). replicate i 0) (sym k))
-    ∙ ap (λ (b : Bool). pick b (padded (a ∷ p ∷ s ∷ u ∷ m ∷ []) n) (replicate n 0)) (sym (le-leb report_words n (omega arith)))

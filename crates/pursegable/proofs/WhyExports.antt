@@ -10,8 +10,7 @@ use lib.Dec.{leb}
 use Rattle.choice.specs.Pick.{pick}
 use Rattle.rules.specs.Call.{Given}
 use Rattle.rules.specs.Why.{why_refused, why}
-use Rattle.why.specs.Promise.{why_of, WhyCalled}
-use Rattle.why.specs.declared.Answer.{Answer}
+use Rattle.why.specs.Promise.{Answer, why_of, WhyCalled}
 use Rattle.pursegable.specs.Exported.{report_words, told, no_limit, limit_for}
 use Rattle.pursegable.specs.WhyExported.{numbers_of, five_why, why_answering, WhyExported}
 use Rattle.pursegable.specs.declared.asking.Numbers.{Numbers}

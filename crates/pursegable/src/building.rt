@@ -61,7 +61,12 @@ pub extern "C" fn pursegable_text(
 
 // The nodes joined.
 #[unsafe(no_mangle)]
-pub extern "C" fn pursegable_concat(nodes: &[u32], table: &mut [u32], text: &[u8], counts: &mut [u32]) -> u32
+pub extern "C" fn pursegable_concat(
+    nodes: &[u32],
+    table: &mut [u32],
+    text: &[u8],
+    counts: &mut [u32],
+) -> u32
     ensures { left result table.new text.now counts.new ≡
         built (λ c t x. concat_made c t x nodes.now)
         table.old text.now counts.old }

@@ -1,5 +1,6 @@
 // Which constructor a number makes: a kind's number its own, and the numbers after the kinds' the composed ones.
 // Those that write into the text are apart: to lend a text that is only read is cheaper to check.
+// kept: numbers and a match over them, since C names a constructor by its number.
 ghost use Rattle.std.specs.Prelude.{◌≡◌};
 ghost use Rattle.build.specs.Outcome.{outcome};
 ghost use Rattle.pursegable.specs.Building.{known, reading_made, any_made};

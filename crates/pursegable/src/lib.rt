@@ -38,20 +38,22 @@ fn limit_for(limit: u32, words: usize) -> u32
     limit
 }
 
-// Fills the report, where there is room for it; the rest of its words are zero.
-fn tell(r: Report, report: &mut [u32])
-    ensures { report.new ≡ told (five_of r) (length report.old) }
+// Fills the report with these words, where there is room for it; the rest of it is zero.
+fn tell(words: [u32; REPORT_WORDS], report: &mut [u32])
+    ensures { report.new ≡ told words (length report.old) }
 {
     report.fill(0);
     if report.len() < REPORT_WORDS {
         return;
     }
-    let place = r.place;
-    report[0] = r.answer;
-    report[1] = place.0;
-    report[2] = r.steps;
-    report[3] = r.used;
-    report[4] = r.events;
+    report[..REPORT_WORDS].copy_from_slice(&words);
+}
+
+// What a layout answers, in the words of its report.
+fn five_of(r: Report) -> [u32; REPORT_WORDS]
+    ensures { result ≡ five_of r }
+{
+    [r.answer, r.place.0, r.steps, r.used, r.events]
 }
 
 // Lays a table out at a width, with a step limit. The answer is returned, and is the report's first word.
@@ -73,8 +75,9 @@ pub extern "C" fn pursegable_layout(
 {
     let words = report.len();
     let limit = limit_for(limit, words);
-    let r = events::layout(table, text, width, limit, out, events, work);
-    tell(r, report);
+    let answer = events::layout(table, text, width, limit, out, events, work);
+    let r = Report::from(answer);
+    tell(five_of(r), report);
     r.answer
 }
 
@@ -150,7 +153,8 @@ pub extern "C" fn pursegable_layout_words(
         result out.new events.new work.new report.new }
 {
     let limit = limit_for(limit, report.len());
-    let r = layout::layout(table, text, width, limit, out, events, work);
-    tell(r, report);
+    let answer = layout::layout(table, text, width, limit, out, events, work);
+    let r = Report::from(answer);
+    tell(five_of(r), report);
     r.answer
 }

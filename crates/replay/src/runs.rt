@@ -71,11 +71,11 @@ fn run<W: Write>(
     work: &mut [u32],
     name: &[u8],
 ) -> io::Result<()> {
-    let r = layout::layout(table, text, width, limit, out, events, work);
+    let answer = layout::layout(table, text, width, limit, out, events, work);
     let mut wide = [0u32; 65600];
     widen(out, &mut wide);
     let room = out.len().min(65600);
-    report(print, r, &wide[..room], events, work, name)
+    report(print, Report::from(answer), &wide[..room], events, work, name)
 }
 
 // Lays a table out in soiled buffers of these sizes.

@@ -88,7 +88,7 @@ fn sample<W: Write>(print: &mut W, hard: bool, width: u32) -> io::Result<()> {
     let mut out = [0u8; 256];
     let mut events = [0u32; 3];
     let mut work = [0u32; 16384];
-    let r = layout::layout(
+    let Ok(laid) = layout::layout(
         &table[..words],
         &text,
         width,
@@ -96,8 +96,10 @@ fn sample<W: Write>(print: &mut W, hard: bool, width: u32) -> io::Result<()> {
         &mut out,
         &mut events,
         &mut work,
-    );
-    let used = r.used as usize;
+    ) else {
+        return Ok(());
+    };
+    let used = laid.used as usize;
     if 256 < used {
         return Ok(());
     }

@@ -31,7 +31,7 @@ pub fn example<W: Write>(print: &mut W) -> io::Result<()> {
     let mut out = [0u8; 64];
     let mut events = [0u32; 3];
     let mut work = [0u32; 16384];
-    let r = layout::layout(
+    let Ok(laid) = layout::layout(
         &table[..words],
         &text[..bytes],
         12,
@@ -39,8 +39,10 @@ pub fn example<W: Write>(print: &mut W) -> io::Result<()> {
         &mut out,
         &mut events,
         &mut work,
-    );
-    let used = r.used as usize;
+    ) else {
+        return Ok(());
+    };
+    let used = laid.used as usize;
     if 64 < used {
         return Ok(());
     }

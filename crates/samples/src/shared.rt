@@ -5,7 +5,6 @@ ghost use Rattle.std.specs.Prelude.{◌≡◌, length};
 use std::io;
 use std::io::Write;
 use summary::Reason;
-use why::Answer;
 
 // The words of 1,002 nodes: a Nil, the joins, the Group.
 const WORDS: usize = 4008;
@@ -29,13 +28,7 @@ fn join(table: &mut [u32])
 
 // The reason in words.
 fn said(reason: Reason) -> bool {
-    match reason {
-        Reason::NothingLeft => true,
-        Reason::HardlineAfter(_) => false,
-        Reason::AtFail(_, _) => false,
-        Reason::HardlineInside(_, _) => false,
-        Reason::TextPast(_, _) => false,
-    }
+    matches!(reason, Reason::NothingLeft)
 }
 
 // Builds the table, asks and writes the answer.
@@ -47,8 +40,7 @@ pub fn shared<W: Write>(print: &mut W) -> io::Result<()> {
     let mut out = [0u8; 1];
     let mut events = [0u32; 3];
     let mut work = [0u32; 16384];
-    let Answer::Told(reason) = why::why(&table, b"", 42, 1, 1, &mut out, &mut events, &mut work)
-    else {
+    let Ok(reason) = why::why(&table, b"", 42, 1, 1, &mut out, &mut events, &mut work) else {
         return Ok(());
     };
     if said(reason) {

@@ -8,6 +8,7 @@ use buffer::lines::Lines;
 use buffer::parts::front;
 use build::Why;
 use chest::NoRoom;
+use layout::Refused;
 use marks::marked;
 use results::input::FaultAt;
 use rules::EVENT_WORDS;
@@ -27,7 +28,7 @@ pub enum Refusal {
     NoInput,
     Fault(FaultAt),
     NoRoom(NoRoom),
-    Layout(u32),
+    Layout(Refused),
     Unwritten,
 }
 
@@ -57,7 +58,10 @@ impl fmt::Display for Refusal {
                 let lacks = lacks(why);
                 write!(f, "line {line}: the footer after this last line {lacks}")
             }
-            Refusal::Layout(answer) => write!(f, "the layout answers {answer}"),
+            Refusal::Layout(refused) => {
+                let answer = u32::from(refused.why);
+                write!(f, "the layout answers {answer}")
+            }
             Refusal::Unwritten => f.write_str(
                 "the sheet could not be written whole: do not use what was printed",
             ),
@@ -89,12 +93,9 @@ fn lay_out<W: Write>(table: &[u32], text: &[u8], print: &mut W) -> Result<(), Re
     let mut out = [0u8; 65536];
     let mut events = [0u32; EVENTS];
     let mut work = [0u32; 16384];
-    let r = layout::sheet(table, text, &mut out, &mut events, &mut work);
-    if r.answer != 0 {
-        return Err(Refusal::Layout(r.answer));
-    }
-    let used = r.used as usize;
-    let words = (r.events as usize * EVENT_WORDS).min(EVENTS);
+    let laid = layout::sheet(table, text, &mut out, &mut events, &mut work).map_err(Refusal::Layout)?;
+    let used = laid.used as usize;
+    let words = (laid.events as usize * EVENT_WORDS).min(EVENTS);
     print_all(print, front(&out, used), &events[..words]).map_err(|_| Refusal::Unwritten)
 }
 

@@ -2,7 +2,8 @@
 // them the first node below a given one that breaks a group or ends its fit test, found on one way down. Both take time that grows with the
 // nodes of the table: a node that is shared is never read twice on the way.
 //
-// A summary is a `Passed`; the caller lends words for them, so each stands there as a word, by `to_word` and `from_word`.
+// A summary is a `Passed`.
+// kept: as a word in the caller's memory, since C lends the work area as words; `to_word` and `from_word` alone know the words.
 // Nothing here is an entry point of the library: each function says what it asks of its caller.
 
 #![tactic(auto)]

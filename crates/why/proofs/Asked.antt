@@ -1,7 +1,7 @@
 -- The call: sizes, faults and the visit, by the rules' `why`; and the run up to the visit.
 --     sizes-why, fault-why, run-why    which of the three
 --     step-none, past-limit, at-limit  which run a step asks for
---     asked-none, asked-past, asked-ended, asked-fit, asked-due   the answer of each
+--     asked-none, asked-past, asked-ended, asked-due   the answer of each
 -- Assumes nothing.
 use mathlib.Core.Path.{◌≡◌, refl, sym, ap, subst, ◌∙◌}
 use Prim.Native.Nat.{ℕ, zero, suc, ◌-◌, ◌/◌, ◌≤◌, ◌<◌}
@@ -24,14 +24,15 @@ use Rattle.machine.proofs.Due.{outcome, ended_is, visit-ended, stops-is}
 use Rattle.waiting.specs.declared.Due.{Due}
 use Rattle.lay.specs.declared.State.{State}
 use Rattle.render.specs.Visit.{Start, env_of}
-use Rattle.std.specs.Prelude.{Result}
+use Rattle.std.specs.Prelude.{Result, Err}
 use Rattle.lay.specs.declared.Stopped.{Stopped}
 use Rattle.render.specs.Best.{Laid, answer_of, end_of, Ends, Halted, RanTo}
 use Rattle.render.specs.declared.End.{End}
 use Rattle.render.specs.declared.Ran.{Ran}
 use Rattle.render.specs.declared.Ran.TheVariants.{Ended, AtLimit}
-use Rattle.why.specs.declared.Answer.{Answer}
-use Rattle.why.specs.Promise.{why_of, Asked, Visiting, Visited}
+use Rattle.why.specs.declared.WhyRefused.{WhyRefused}
+use Rattle.why.specs.declared.WhyRefused.TheVariants.{NoVisit}
+use Rattle.why.specs.Promise.{refused_number, Answer, Asked, Visiting, Visited}
 use Rattle.why.proofs.Visits.{visiting, due-told}
 
 -- ---- which answer
@@ -83,13 +84,13 @@ module _ {T tx out ev w : List ℕ} {W : ℕ} (st : Start T tx out ev w W (lengt
   answer-is k r out' ev' p =
       sym (ap (λ x. x.answer) (p.same ∙ layout_is T tx (env_of T tx out ev W k).limits N st.some st.small st.valid st.room))
 
-  pub asked-none : (r : Answer) → why_of r ≡ why_refused 13 → step ≡ 0 → Asked T tx out ev W limit step r
-  asked-none r e z = e ∙ sym (step-none L (tree T tx (N - 1))) ∙ ap (why_run L (tree T tx (N - 1))) (sym z)
+  pub asked-none : step ≡ 0 → Asked T tx out ev W limit step (Err NoVisit)
+  asked-none z = sym (step-none L (tree T tx (N - 1))) ∙ ap (why_run L (tree T tx (N - 1))) (sym z)
 
   pub asked-past : (e : Result End Stopped) (out' ev' : List ℕ) → limit < step → Laid T tx out ev W limit N e out' ev'
-      → (r : Answer) → why_of r ≡ why_refused (pick (eqb (answer_of e) 0) 13 (answer_of e)) → Asked T tx out ev W limit step r
+      → (r : WhyRefused) → refused_number r ≡ pick (eqb (answer_of e) 0) 13 (answer_of e) → Asked T tx out ev W limit step (Err r)
   asked-past e out' ev' less p r same =
-      same
+      ap why_refused same
       ∙ ap (λ a. why_refused (pick (eqb a 0) 13 a)) (sym (answer-is limit e out' ev' p))
       ∙ sym (ended_is (whole limit))
       ∙ sym (past-limit L (tree T tx (N - 1)) step less)
@@ -109,13 +110,9 @@ module _ {T tx out ev w : List ℕ} {W : ℕ} (st : Start T tx out ev w W (lengt
           visit-ended W (whole (step - 1)) (answer_of e) (answer-is (step - 1) e out' ev' laid)
           (λ seven. ap (λ z. z.due) (stops-is (env_of T tx out ev W (step - 1)) N st.some st.small st.valid st.room (ends seven)))
 
-      pub asked-fit : (r : Answer) → why_of r ≡ why_refused 13 → (answer_of e) ≡ 7 → Asked T tx out ev W limit step r
-      asked-fit r same seven =
-          same ∙ ap (λ b. why_refused (pick b 13 (pick (eqb (answer_of e) 0) 13 (answer_of e)))) (sym (eq-eqb (answer_of e) 7 seven)) ∙ sym ended-visit ∙ sym visit-is
-
-      pub asked-ended : (r : Answer) → why_of r ≡ why_refused (pick (eqb (answer_of e) 0) 13 (answer_of e)) → ((answer_of e) ≡ 7 → ⊥) → Asked T tx out ev W limit step r
-      asked-ended r same ne =
-          same ∙ ap (λ b. why_refused (pick b 13 (pick (eqb (answer_of e) 0) 13 (answer_of e)))) (sym (ne_eqb (answer_of e) 7 ne)) ∙ sym ended-visit ∙ sym visit-is
+      pub asked-ended : (r : WhyRefused) → refused_number r ≡ pick (eqb (answer_of e) 7) 13 (pick (eqb (answer_of e) 0) 13 (answer_of e))
+          → Asked T tx out ev W limit step (Err r)
+      asked-ended r same = ap why_refused same ∙ sym ended-visit ∙ sym visit-is
 
     module _ (s : State) (h : Due) (is : x ≡ AtLimit s h) where
       halted : Halted (env_of T tx out ev W (step - 1)) N s h out' ev' w'

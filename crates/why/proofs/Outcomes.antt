@@ -18,37 +18,62 @@ use Rattle.rules.specs.Why.{WhyReport, goes_flat, reason, told, at_visit, run_to
 use Rattle.rules.proofs.Reasons.{group_goes}
 use Rattle.rules.proofs.FirstMet.{Unbroken, stops, waiting_stops, flat_exactly}
 use Rattle.summary.specs.declared.Reason.TheVariants.{AtFail, HardlineInside, TextPast, NothingLeft, HardlineAfter}
-use Rattle.why.specs.declared.Answer.{Answer}
-use Rattle.why.specs.declared.Answer.TheVariants.{Refused, Told}
-use Rattle.why.specs.Promise.{why_of, WhyCalled}
+use Rattle.std.specs.Prelude.{Ok, Err}
+use Rattle.table.proofs.Refusals.{number_at-most-9, number-injective}
+use Rattle.summary.specs.Promise.{reason_of}
+use Rattle.summary.specs.declared.Reason.{Reason}
+use Rattle.why.specs.declared.WhyRefused.{WhyRefused}
+use Rattle.why.specs.declared.WhyRefused.TheVariants.{Refused, NoVisit}
+use Rattle.why.specs.Promise.{refused_number, Answer, why_of, WhyCalled}
 use Rattle.why.proofs.Asked.{at-limit}
 
--- an answer is known by its numbers
-named : ℕ → ℕ → ℕ → ℕ → Answer
-named zero answer n c = Refused answer
-named (suc zero) answer n c = Told (AtFail (record { 0 = n }) (record { 0 = c }))
-named (suc (suc zero)) answer n c = Told (HardlineInside (record { 0 = n }) (record { 0 = c }))
-named (suc (suc (suc zero))) answer n c = Told (TextPast (record { 0 = n }) (record { 0 = c }))
-named (suc (suc (suc (suc zero)))) answer n c = Told NothingLeft
-named (suc (suc (suc (suc (suc k))))) answer n c = Told (HardlineAfter (record { 0 = n }))
+-- a reason is known by its numbers
+named : ℕ → ℕ → ℕ → Reason
+named zero n c = NothingLeft
+named (suc zero) n c = AtFail (record { 0 = n }) (record { 0 = c })
+named (suc (suc zero)) n c = HardlineInside (record { 0 = n }) (record { 0 = c })
+named (suc (suc (suc zero))) n c = TextPast (record { 0 = n }) (record { 0 = c })
+named (suc (suc (suc (suc zero)))) n c = NothingLeft
+named (suc (suc (suc (suc (suc k))))) n c = HardlineAfter (record { 0 = n })
 
-known : WhyReport → Answer
-known w = named w.reason w.answer w.node w.column
+known : WhyReport → Reason
+known w = named w.reason w.node w.column
 
-named-is : (r : Answer) → known (why_of r) ≡ r
+named-is : (r : Reason) → known (told (reason_of r)) ≡ r
 unfolding known named
-named-is (Refused a) = refl
-named-is (Told (AtFail n c)) = refl
-named-is (Told (HardlineInside n c)) = refl
-named-is (Told (TextPast n c)) = refl
-named-is (Told NothingLeft) = refl
-named-is (Told (HardlineAfter n)) = refl
+named-is (AtFail n c) = refl
+named-is (HardlineInside n c) = refl
+named-is (TextPast n c) = refl
+named-is NothingLeft = refl
+named-is (HardlineAfter n) = refl
+
+-- and has one, which a refusal has not
+reason_some : (r : Reason) → (told (reason_of r)).reason ≡ 0 → ⊥
+reason_some (AtFail n c) e = omega arith
+reason_some (HardlineInside n c) e = omega arith
+reason_some (TextPast n c) e = omega arith
+reason_some NothingLeft e = omega arith
+reason_some (HardlineAfter n) e = omega arith
+
+-- a refusal is known by its number
+refused_known : (r r' : WhyRefused) → refused_number r ≡ refused_number r' → r ≡ r'
+refused_known (Refused w) (Refused w') e = ap Refused (number-injective w w' e)
+refused_known (Refused w) NoVisit e = absurd (omega (arith, number_at-most-9 w))
+refused_known NoVisit (Refused w) e = absurd (omega (arith, number_at-most-9 w))
+refused_known NoVisit NoVisit e = refl
+
+-- an answer is known by its numbers
+answer_known : (r r' : Answer) → why_of r ≡ why_of r' → r ≡ r'
+answer_known (Ok r) (Ok r') e = ap Ok (sym (named-is r) ∙ ap known e ∙ named-is r')
+answer_known (Ok r) (Err w) e = absurd (reason_some r (ap (λ x. x.reason) e))
+answer_known (Err w) (Ok r) e = absurd (reason_some r (ap (λ x. x.reason) (sym e)))
+answer_known (Err w) (Err w') e = ap Err (refused_known w w' (ap (λ x. x.answer) e))
 
 pub unique : (g : Given) (words step : ℕ) (r r' : Answer) (out out' events events' work work' : List ℕ)
     → WhyCalled g words step r out events work → WhyCalled g words step r' out' events' work'
     → (r ≡ r') × (out ≡ out') × (events ≡ events') × (work ≡ work')
 unique g words step r r' out out' ev ev' w w' p q = (
-  sym (named-is r) ∙ ap known (p.same ∙ sym q.same) ∙ named-is r',
+  answer_known r r' (p.same ∙ sym q.same),
   p.output ∙ sym q.output,
   p.noted ∙ sym q.noted,
   p.cleared ∙ sym q.cleared,

@@ -31,9 +31,9 @@ use Rattle.summary.specs.declared.Reason.{Reason}
 use Rattle.lay.specs.declared.State.{State}
 use Rattle.render.specs.Visit.{Start, env_of}
 use Rattle.render.specs.Best.{Halted}
-use Rattle.why.specs.declared.Answer.{Answer}
-use Rattle.why.specs.declared.Answer.TheVariants.{Refused, Told}
-use Rattle.why.specs.Promise.{why_of, Visiting, Visited}
+use Rattle.std.specs.Prelude.{Ok, Err}
+use Rattle.why.specs.declared.WhyRefused.TheVariants.{NoVisit}
+use Rattle.why.specs.Promise.{Answer, why_of, Visiting, Visited}
 
 -- ---- what was due, where it was no Group met broken
 
@@ -110,7 +110,7 @@ module _ {T w : List ℕ} {W : ℕ} {s : State} {h : Due} (v : Visiting T w W s 
         }
 
     pub visit-group : (x : Reason) → get_or T (n * 4) 0 ≡ 2 → h.mode.0 ≡ 0
-        → reasons.Because T w' s.depth (get_or T (n * 4 + 1) 0) s.page.column.0 W x → Visited T w W s h (Told x)
+        → reasons.Because T w' s.depth (get_or T (n * 4 + 1) 0) s.page.column.0 W x → Visited T w W s h (Ok x)
     visit-group x kind mode b =
         record {
           group = λ k m bytes. ap told (b bytes ∙ ap (λ l. reason W (tree T bytes (get_or T (n * 4 + 1) 0)) (waiting (tree T bytes) l) s.page.column.0) same-stack);
@@ -118,10 +118,10 @@ module _ {T w : List ℕ} {W : ℕ} {s : State} {h : Due} (v : Visiting T w W s 
           other = λ ne. absurd (ne kind);
         }
 
-  pub visit-other : (get_or T (n * 4) 0 ≡ 2 → ⊥) → Visited T w W s h (Refused 13)
+  pub visit-other : (get_or T (n * 4) 0 ≡ 2 → ⊥) → Visited T w W s h (Err NoVisit)
   visit-other ne = record { group = λ k m bytes. absurd (ne k); flat = λ q. refl; other = λ q. refl }
 
-  pub visit-flat : (h.mode.0 ≡ 0 → ⊥) → Visited T w W s h (Refused 13)
+  pub visit-flat : (h.mode.0 ≡ 0 → ⊥) → Visited T w W s h (Err NoVisit)
   visit-flat ne = record { group = λ k m bytes. absurd (ne m); flat = λ q. refl; other = λ q. refl }
 
 -- ---- by the rules

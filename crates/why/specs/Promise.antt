@@ -1,6 +1,6 @@
 -- What the call promises: the answer or the reason is the rules' definition of `why`, and every lent buffer ends zero.
 -- Assumes nothing.
-use Rattle.std.specs.Prelude.{◌≡◌, ℕ, ◌+◌, ◌*◌, ◌/◌, ◌≤◌, ◌<◌, List, length, replicate, get_or}
+use Rattle.std.specs.Prelude.{◌≡◌, ℕ, ◌+◌, ◌*◌, ◌/◌, ◌≤◌, ◌<◌, Result, Ok, Err, List, length, replicate, get_or}
 use Rattle.table.specs.Unfold.{tree, root}
 use Rattle.table.specs.Sound.{AllSound}
 use Rattle.rules.specs.Call.{Given}
@@ -14,13 +14,24 @@ use Rattle.waiting.specs.declared.Due.{Due}
 use Rattle.summary.specs.Promise.{reason_of}
 use Rattle.lay.specs.declared.State.{State}
 use Rattle.render.specs.Visit.{env_of}
-use Rattle.why.specs.declared.Answer.{Answer}
-use Rattle.why.specs.declared.Answer.TheVariants.{Refused, Told}
+use Rattle.table.specs.Refusal.{number}
+use Rattle.summary.specs.declared.Reason.{Reason}
+use Rattle.why.specs.declared.WhyRefused.{WhyRefused}
+use Rattle.why.specs.declared.WhyRefused.TheVariants.{Refused, NoVisit}
+
+-- document 01's number of a refusal
+abbrev pub refused_number : WhyRefused → ℕ
+refused_number (Refused why) = number why
+refused_number NoVisit = 13
+
+-- a reason, or why none is told
+abbrev pub Answer : Type 0
+Answer = Result Reason WhyRefused
 
 -- the numbers of an answer
 abbrev pub why_of : Answer → WhyReport
-why_of (Refused answer) = why_refused answer
-why_of (Told r) = told (reason_of r)
+why_of (Ok r) = told (reason_of r)
+why_of (Err refused) = why_refused (refused_number refused)
 
 -- the whole call; `words` is how many words of events are lent
 pub record WhyCalled (g : Given) (words step : ℕ) (r : Answer) (out events work : List ℕ) : Type 0 where

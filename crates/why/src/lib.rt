@@ -4,71 +4,97 @@
 // layout, the answer is the first node that its fit test meets that breaks it or ends it flat. The run goes up to the visit with the
 // engine's own functions; the reason is found by the summaries of the nodes, whatever the group unfolds to.
 //
-// The function has no `requires`: any inputs get a numbered answer or a reason, and the call ends. Output, events and work are zero after
+// The function has no `requires`: any inputs get a reason or a refusal, and the call ends. Output, events and work are zero after
 // every call.
 
 #![tactic(auto)]
 
 ghost use Rattle.std.specs.Prelude.{◌≡◌, ◌/◌, length, eqb};
 ghost use Rattle.choice.specs.Pick.{pick};
-ghost use Rattle.rules.specs.Why.{why_refused};
 ghost use Rattle.layout.specs.Called.{lent};
 ghost use Rattle.render.specs.Visit.{Start};
 ghost use Rattle.render.specs.Best.{answer_of};
-ghost use Rattle.why.specs.Promise.{why_of, Visiting, Visited, Asked, Decided, WhyCalled};
+ghost use Rattle.why.specs.Promise.{refused_number, Visiting, Visited, Asked, Decided, WhyCalled};
+ghost use Rattle.why.specs.declared.WhyRefused.TheVariants.{Refused};
 
 use lay::{State, Stopped};
 use render::{End, Ran};
 use summary::Reason;
-use table::NodeNo;
+use table::{Fault, NodeNo, Refusal};
 use waiting::Due;
 
-// The answer for a step that is no visit of a Group met broken in layout.
-const NO_VISIT: u32 = 13;
-
-// What the call answers: a refusal's number, or the reason.
+// Why no reason is told: the layout is refused; or the step is no visit of a Group met broken in layout.
 #[derive(Clone, Copy)]
-pub enum Answer {
-    Refused(u32),
-    Told(Reason),
+pub enum WhyRefused {
+    Refused(Refusal),
+    NoVisit,
 }
 
-// The number that a run answers with: 0, or that of its refusal.
-fn number_of(end: Result<End, Stopped>) -> u32
-    ensures { result ≡ answer_of end }
+impl From<Fault> for WhyRefused {
+    ghost from_gives = { λ fault refused. refused ≡ Refused fault.why };
+
+    fn from(fault: Fault) -> WhyRefused {
+        WhyRefused::Refused(fault.why)
+    }
+}
+
+// Document 01's number; 13 for no visit.
+impl From<WhyRefused> for u32 {
+    ghost from_gives = { λ refused answer. answer ≡ refused_number refused };
+
+    fn from(refused: WhyRefused) -> u32 {
+        match refused {
+            WhyRefused::Refused(why) => u32::from(why),
+            WhyRefused::NoVisit => 13,
+        }
+    }
+}
+
+// A run that ended before the visit: its own refusal, or no visit.
+fn ended(end: Result<End, Stopped>) -> WhyRefused
+    ensures { refused_number result ≡ pick (eqb (answer_of end) 0) 13 (answer_of end) }
 {
     match end {
-        Ok(_) => 0,
-        Err(stopped) => u32::from(stopped.why),
+        Ok(_) => WhyRefused::NoVisit,
+        Err(stopped) => WhyRefused::Refused(stopped.why),
     }
 }
 
-// A run that ended before the visit: its own 6 to 9, or 13 if it ended with 0.
-fn ended(answer: u32) -> Answer
-    ensures { why_of result ≡ why_refused (pick (eqb answer 0) 13 answer) }
+// The same of a run that had steps up to the visit: a node due in a fit test is no visit of layout.
+fn ended_at_visit(end: Result<End, Stopped>) -> WhyRefused
+    ensures { refused_number result ≡ pick (eqb (answer_of end) 7) 13 (pick (eqb (answer_of end) 0) 13 (answer_of end)) }
 {
-    if answer == 0 {
-        return Answer::Refused(NO_VISIT);
+    match end {
+        Ok(_) => WhyRefused::NoVisit,
+        Err(stopped) => match stopped.why {
+            Refusal::NoSteps => WhyRefused::NoVisit,
+            why => WhyRefused::Refused(why),
+        },
     }
-    Answer::Refused(answer)
 }
 
 // The visit asked for, where this node is due in layout: a Group met broken has a reason.
-fn visit(table: &[u32], work: &mut [u32], width: u32, s: State, due: Due) -> Answer
+fn visit(
+    table: &[u32],
+    work: &mut [u32],
+    width: u32,
+    s: State,
+    due: Due,
+) -> Result<Reason, WhyRefused>
     requires { Visiting table.now work.old width s due }
     ensures { Visited table.now work.old width s due result }
 {
     let at = (due.node.0 as usize) * 4;
     if table[at] != table::GROUP {
-        return Answer::Refused(NO_VISIT);
+        return Err(WhyRefused::NoVisit);
     }
     if due.mode.0 != 0 {
-        return Answer::Refused(NO_VISIT);
+        return Err(WhyRefused::NoVisit);
     }
     let child = NodeNo(table[at + 1]);
     let column = s.page.column;
     reasons::fill(table, work);
-    Answer::Told(reasons::reason(table, work, s.depth, child, column, width))
+    Ok(reasons::reason(table, work, s.depth, child, column, width))
 }
 
 // A valid table is run up to the visit: its limit is one step short of it, where that is below the limit. The node then due is the visit's.
@@ -81,27 +107,20 @@ fn ask(
     out: &mut [u8],
     events: &mut [u32],
     work: &mut [u32],
-) -> Answer
+) -> Result<Reason, WhyRefused>
     requires { Start table.now text.now out.old events.old work.old width (length table.now / 4) }
     ensures { Asked table.now text.now out.old events.old width limit step result }
 {
     let nodes = (table.len() / 4) as u32;
     if step == 0 {
-        return Answer::Refused(NO_VISIT);
+        return Err(WhyRefused::NoVisit);
     }
     if limit < step {
         let end = render::best(table, text, out, events, work, width, limit, nodes);
-        return ended(number_of(end));
+        return Err(ended(end));
     }
     match render::run(table, text, out, events, work, width, step - 1, nodes) {
-        Ran::Ended(end) => {
-            let answer = number_of(end);
-            // A node due in a fit test is no visit of layout.
-            if answer == 7 {
-                return Answer::Refused(NO_VISIT);
-            }
-            ended(answer)
-        }
+        Ran::Ended(end) => Err(ended_at_visit(end)),
         Ran::AtLimit(s, due) => visit(table, work, width, s, due),
     }
 }
@@ -116,17 +135,15 @@ fn decide(
     out: &mut [u8],
     events: &mut [u32],
     work: &mut [u32],
-) -> Answer
+) -> Result<Reason, WhyRefused>
     ensures { Decided
         (lent table.now text.now width limit out.old events.old work.old)
         step result }
 {
     if !layout::buffers_right(out.len(), events.len(), work.len(), width, limit) {
-        return Answer::Refused(1);
+        return Err(WhyRefused::Refused(Refusal::BadSize));
     }
-    if let Err(fault) = table::validate(table, text) {
-        return Answer::Refused(u32::from(fault.why));
-    }
+    table::validate(table, text)?;
     ask(table, text, width, limit, step, out, events, work)
 }
 
@@ -140,7 +157,7 @@ pub fn why(
     out: &mut [u8],
     events: &mut [u32],
     work: &mut [u32],
-) -> Answer
+) -> Result<Reason, WhyRefused>
     ensures { WhyCalled
         (lent table.now text.now width limit out.old events.old work.old)
         (length events.old) step

@@ -5,13 +5,13 @@ use Rattle.layout.proofs.layout.Goals as goal
 
 pub returns : goal.returns
 returns c =
-    let decided = c.decide-report in
+    let decided = c.decide-answer in
     called
     decided.new.work
     decided.ensures
     decided.auto.out
     decided.auto.events
     decided.auto.work
-    c.fill_from.ensures
-    c.fill_from-2.ensures
+    (rw c.from-report.ensures at c.fill_from.ensures)
+    (rw c.from-report.ensures at c.fill_from-2.ensures)
     c.clear_dirty_words.ensures
