@@ -10,14 +10,12 @@ use borrow.Author.Tests.{le-leb, lt-leb}
 use Rattle.table.specs.Node.{fail, node_at}
 use Rattle.machine.specs.Fit.{Item, walk, item, look, by_mode}
 use Rattle.waiting.specs.Stack.{mode_of, items_of, FitPushed}
-use Rattle.waiting.specs.declared.Mode.{Mode}
-use Rattle.waiting.specs.declared.Mode.TheVariants.{Broken, Flat}
-use Rattle.waiting.proofs.Laws.{same_refl}
+use Rattle.waiting.proofs.Laws.{flat_mode, same_refl}
 use Rattle.fitting.specs.Fitting.{Stepped}
 use Rattle.fitting.specs.declared.Step.TheVariants.{Down, Done, Fits, Wide}
 use Rattle.table.proofs.Nodes.{node-is}
 
-module _ {table : List ℕ} {W n : ℕ} {m : Mode} {k c : ℕ} {w : List ℕ} where
+module _ {table : List ℕ} {W n m k c : ℕ} {w : List ℕ} where
   pub look-nil : get_or table (n * 4) 0 ≡ 0 → Stepped table W n m k c w (Done (record { 0 = c })) w
   look-nil e = record { same = same_refl 1024 _; said = λ is left. rw (node-is table n 0 e) }
 
@@ -32,11 +30,11 @@ module _ {table : List ℕ} {W n : ℕ} {m : Mode} {k c : ℕ} {w : List ℕ} wh
   pub look-flat_alt : (x : ℕ) → get_or table (n * 4) 0 ≡ 3 → x ≡ by_mode (mode_of m) (get_or table (n * 4 + 1) 0) (get_or table (n * 4 + 2) 0) → Stepped table W n m k c w (Down (record { 0 = x }) k) w
   look-flat_alt x e ex = look-through x (λ is left. rw (node-is table n 3 e, ex))
 
-  pub look-hardline : get_or table (n * 4) 0 ≡ 5 → m ≡ Broken → Stepped table W n m k c w Fits w
+  pub look-hardline : get_or table (n * 4) 0 ≡ 5 → m ≡ 0 → Stepped table W n m k c w Fits w
   look-hardline e z = record { same = same_refl 1024 _; said = λ is left. rw (node-is table n 5 e, z) }
 
-  pub look-hardline-flat : get_or table (n * 4) 0 ≡ 5 → m ≡ Flat → Stepped table W n m k c w Wide w
-  look-hardline-flat e z = record { same = same_refl 1024 _; said = λ is left. rw (node-is table n 5 e, z) }
+  pub look-hardline-flat : get_or table (n * 4) 0 ≡ 5 → (m ≡ 0 → ⊥) → Stepped table W n m k c w Wide w
+  look-hardline-flat e z = record { same = same_refl 1024 _; said = λ is left. rw (node-is table n 5 e, flat_mode m z) }
 
   pub look-text : get_or table (n * 4) 0 ≡ 6 → c + get_or table (n * 4 + 3) 0 ≤ W → Stepped table W n m k c w (Done (record { 0 = c + get_or table (n * 4 + 3) 0 })) w
   look-text e h = record { same = same_refl 1024 _; said = λ is left. rw (node-is table n 6 e, le-leb _ _ h) }

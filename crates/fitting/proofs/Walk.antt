@@ -12,10 +12,8 @@ use Rattle.machine.specs.Waiting.{Entry, node}
 use Rattle.machine.specs.Fit.{Item, item, Verdict, fits, wide, due, Walked, walk, say, look, fit, reread}
 use Rattle.machine.specs.Well.{Nodes, FitStacked}
 use Rattle.machine.proofs.Kept.{FitNext, walked_next}
-use Rattle.waiting.specs.Area.{area_words, fit_from, number_at, indent_at, mode_at, mode_in}
+use Rattle.waiting.specs.Area.{area_words, fit_from, number_at, indent_at, mode_at}
 use Rattle.std.specs.Prelude.{Option, Some, None, Result}
-use Rattle.waiting.specs.declared.Mode.{Mode}
-use Rattle.waiting.specs.declared.Mode.TheVariants.{Broken, Flat}
 use Rattle.waiting.specs.declared.Tag.TheVariants.{Node}
 use Rattle.waiting.specs.Stack.{mode_of, stack_of, items_of, Same, from, Nearest}
 use Rattle.waiting.proofs.Laws.{same_refl, same_trans, same_less, stack_same, length-items, node_up, from-reread, from-nodes}
@@ -33,7 +31,7 @@ fit-nil T W zero c = refl
 fit-nil T W (suc left) c = refl
 
 -- the node n that is due in a fit test, and k more of its mode
-abbrev pub ahead : List ℕ → ℕ → Mode → ℕ → List Item
+abbrev pub ahead : List ℕ → ℕ → ℕ → ℕ → List Item
 ahead w n m k = item n (mode_of m) ∷ items_of m k w
 
 module _ (T : List ℕ) (W x d c left : ℕ) where
@@ -56,12 +54,12 @@ fit_length : (N : ℕ) (is : List Item) → FitStacked N is → length is ≤ N
 fit_length N [] h = omega arith
 fit_length N (item n m ∷ is) h = omega (arith, h.0)
 
-none_left : (w : List ℕ) (m : Mode) (k : ℕ) → k ≡ 0 → items_of m k w ≡ []
+none_left : (w : List ℕ) (m : ℕ) (k : ℕ) → k ≡ 0 → items_of m k w ≡ []
 none_left w m k e = rw e
 
 -- the fit test at work: its start is implicit in `Walking`
 module _ {T : List ℕ} {W x d c left : ℕ} where
-  pub walk_start : (w : List ℕ) → Fitting T w W x d c → Walking T W x d c left w w (ahead w x Flat 0) d c left
+  pub walk_start : (w : List ℕ) → Fitting T w W x d c → Walking T W x d c left w w (ahead w x 1 0) d c left
   walk_start w f =
       record {
         start = f;
@@ -75,7 +73,7 @@ module _ {T : List ℕ} {W x d c left : ℕ} where
       }
 
   -- ---- a node is due
-  module _ {w₀ w : List ℕ} {n : ℕ} (m : Mode) (k : ℕ) {a col S : ℕ} (h : Walking T W x d c left w₀ w (ahead w n m k) a col S) where
+  module _ {w₀ w : List ℕ} {n : ℕ} (m : ℕ) (k : ℕ) {a col S : ℕ} (h : Walking T W x d c left w₀ w (ahead w n m k) a col S) where
     node_in : n < h.start.N
     node_in = omega (arith, h.stack.0)
 
@@ -152,25 +150,25 @@ module _ {T : List ℕ} {W x d c left : ℕ} where
   -- ---- a node is done
 
   -- the next of its mode
-  pub walk_pop : {w₀ w : List ℕ} (m : Mode) (k : ℕ) {a col s : ℕ} → (k ≡ 0 → ⊥) → Walking T W x d c left w₀ w (items_of m k w) a col s → Walking T W x d c left w₀ w (ahead w (get_or w (fit_from + (k - 1)) 0) m (k - 1)) a col s
+  pub walk_pop : {w₀ w : List ℕ} (m : ℕ) (k : ℕ) {a col s : ℕ} → (k ≡ 0 → ⊥) → Walking T W x d c left w₀ w (items_of m k w) a col s → Walking T W x d c left w₀ w (ahead w (get_or w (fit_from + (k - 1)) 0) m (k - 1)) a col s
   walk_pop {w₀} {w} m k {a} {col} {s} ne h =
       let e : k ≡ suc (k - 1) = omega arith in
       subst (λ (j : ℕ). Walking T W x d c left w₀ w (items_of m j w) a col s) e h
 
   -- nothing left
-  pub walk_end : {w₀ w : List ℕ} (m : Mode) (k : ℕ) {a col s : ℕ} {r : Option ℕ} → k ≡ 0 → Walking T W x d c left w₀ w (items_of m k w) a col s → Nearest w a Node r → r ≡ None → fits s ≡ whole T W x d c left w
+  pub walk_end : {w₀ w : List ℕ} (m : ℕ) (k : ℕ) {a col s : ℕ} {r : Option ℕ} → k ≡ 0 → Walking T W x d c left w₀ w (items_of m k w) a col s → Nearest w a Node r → r ≡ None → fits s ≡ whole T W x d c left w
   walk_end {w₀} {w} m k {a} {col} {s} {r} z h f e =
       let q : reread (stack_of a w) ≡ [] = sym (from-reread (stack_of a w)) ∙ ap reread f.found ∙ rw e in
       sym (fit-nil T W s col) ∙ (rw (none_left w m k z, q) at h.said)
 
   -- the next waiting node, read as broken
-  pub walk-next : {w₀ w : List ℕ} (m : Mode) (k : ℕ) {a col s : ℕ} {r : Option ℕ} (i : ℕ) → k ≡ 0 → Walking T W x d c left w₀ w (items_of m k w) a col s → Nearest w a Node r → r ≡ Some i → Walking T W x d c left w₀ w (ahead w (number_at w i) Broken k) i col s
+  pub walk-next : {w₀ w : List ℕ} (m : ℕ) (k : ℕ) {a col s : ℕ} {r : Option ℕ} (i : ℕ) → k ≡ 0 → Walking T W x d c left w₀ w (items_of m k w) a col s → Nearest w a Node r → r ≡ Some i → Walking T W x d c left w₀ w (ahead w (number_at w i) 0 k) i col s
   walk-next {w₀} {w} m k {a} {col} {s} {r} i z h f e =
       let below : i < a = rw e at f.within in
-      let top : from 0 (stack_of a w) ≡ node (number_at w i) (indent_at w i) (mode_of (mode_in (mode_at w i))) ∷ stack_of i w =
+      let top : from 0 (stack_of a w) ≡ node (number_at w i) (indent_at w i) (mode_of (mode_at w i)) ∷ stack_of i w =
       f.found ∙ rw e (node_up w i (f.tagged i e)) in
       let q : reread (stack_of a w) ≡ item (number_at w i) broken ∷ reread (stack_of i w) = sym (from-reread (stack_of a w)) ∙ ap reread top in
-      let g : Nodes h.start.N (node (number_at w i) (indent_at w i) (mode_of (mode_in (mode_at w i))) ∷ stack_of i w) =
+      let g : Nodes h.start.N (node (number_at w i) (indent_at w i) (mode_of (mode_at w i)) ∷ stack_of i w) =
       subst (λ (l : List Entry). Nodes h.start.N l) top (from-nodes h.start.N (stack_of a w) h.nodes) in
       record {
         start = h.start;
@@ -178,9 +176,9 @@ module _ {T : List ℕ} {W x d c left : ℕ} where
         same = h.same;
         long = h.long;
         nodes = g.1;
-        stack = rw (none_left w Broken k z) (omega (arith, g.0), tt);
+        stack = rw (none_left w 0 k z) (omega (arith, g.0), tt);
         column = h.column;
-        said = rw (none_left w Broken k z) (rw (none_left w m k z, q) at h.said);
+        said = rw (none_left w 0 k z) (rw (none_left w m k z, q) at h.said);
       }
 
   -- the answer, over the work area as it is now

@@ -1,40 +1,37 @@
 -- What the fit test's functions promise, over the step function's `look` and `fit`.
-use Rattle.std.specs.Prelude.{◌≡◌, ℕ, ◌-◌, ◌*◌, ◌≤◌, ◌<◌, Result, Ok, Err, List, ◌∷◌, ◌++◌, length}
+use Rattle.std.specs.Prelude.{◌≡◌, ℕ, zero, suc, ◌+◌, ◌-◌, ◌*◌, ◌≤◌, ◌<◌, Option, Some, None, Result, Ok, Err, List, ◌∷◌, ◌++◌, length, get_or}
 use Rattle.table.specs.Node.{node_at}
 use Rattle.table.specs.Sound.{AllSound}
-use Rattle.rules.specs.Layout as rules
-use Rattle.rules.specs.Layout.{flat}
+use Rattle.rules.specs.Layout.{Mode, flat}
 use Rattle.machine.specs.Fit as machine
 use Rattle.machine.specs.Fit.{Item, item, Verdict, Walked, walk, say, reread}
 use Rattle.machine.specs.Well.{Nodes}
 use Rattle.table.specs.declared.NodeNo.{NodeNo}
 use Rattle.waiting.specs.Stack.{mode_of, stack_of, items_of, Same}
-use Rattle.waiting.specs.declared.Mode.{Mode}
-use Rattle.waiting.specs.declared.Mode.TheVariants.{Broken, Flat}
 use Rattle.fitting.specs.declared.Step.{Step}
 use Rattle.fitting.specs.declared.Step.TheVariants.{Down, Done, Fits, Wide}
 use Rattle.fitting.specs.declared.Fit.{Fit}
 
 -- Where a visit of the code leads: from column c with k nodes left to walk in mode m, over the work area w; `is` is what is to be walked
 -- after those, and `left` the steps left.
-abbrev pub stepped : Step → Mode → ℕ → ℕ → List ℕ → List Item → ℕ → Walked
+abbrev pub stepped : Step → ℕ → ℕ → ℕ → List ℕ → List Item → ℕ → Walked
 stepped (Down n k') m k c w is left = walk (item n.0 (mode_of m) ∷ (items_of m k' w ++ is)) c
 stepped (Done c') m k c w is left = walk (items_of m k w ++ is) c'.0
 stepped Fits m k c w is left = say (machine.fits left)
 stepped Wide m k c w is left = say (machine.wide left)
 
 -- every entry is as it was, and the visit leads where `look` leads
-pub record Stepped (table : List ℕ) (width n : ℕ) (m : Mode) (k c : ℕ) (w : List ℕ) (r : Step) (w' : List ℕ) : Type 0 where
+pub record Stepped (table : List ℕ) (width n m k c : ℕ) (w : List ℕ) (r : Step) (w' : List ℕ) : Type 0 where
   pub same : Same 1024 w w'
   pub said : (is : List Item) (left : ℕ) → stepped r m k c w' is left ≡ machine.look width (node_at table n) (mode_of m) (items_of m k w ++ is) c left
 
 -- the code's answer as the step function's
-abbrev pub verdict_by : Mode → ℕ → Verdict
-verdict_by Flat left = machine.fits left
-verdict_by Broken left = machine.wide left
+abbrev pub verdict_by : ℕ → ℕ → Verdict
+verdict_by zero left = machine.wide left
+verdict_by (suc m) left = machine.fits left
 
 abbrev pub verdict_of : Result Fit NodeNo → Verdict
-verdict_of (Ok f) = verdict_by f.mode f.left
+verdict_of (Ok f) = verdict_by f.mode.0 f.left
 verdict_of (Err n) = machine.due n.0
 
 -- what the fit test starts from: a valid table of N nodes, the group's child one of them, d entries waiting, and a column
@@ -67,4 +64,11 @@ pub record Known (table : List ℕ) (n : ℕ) : Type 0 where
 pub record Below (table : List ℕ) (n left down : ℕ) : Type 0 where
   pub nodes : down ≤ n
   pub steps : down ≤ left
-  pub said : (W c : ℕ) (m : rules.Mode) (is : List Item) → machine.fit table W (left - down) (item (n - down) m ∷ is) c ≡ machine.fit table W left (item n m ∷ is) c
+  pub said : (W c : ℕ) (m : Mode) (is : List Item) → machine.fit table W (left - down) (item (n - down) m ∷ is) c ≡ machine.fit table W left (item n m ∷ is) c
+
+-- r is the child of node n, where n is of this kind and its child stands next to it
+pub record NextInRow (table : List ℕ) (kind n : ℕ) (r : Option NodeNo) : Type 0 where
+  pub of_kind : (x : NodeNo) → r ≡ Some x → get_or table (n * 4) 0 ≡ kind
+  pub beside : (x : NodeNo) → r ≡ Some x → get_or table (n * 4 + 1) 0 + 1 ≡ n
+  pub child : (x : NodeNo) → r ≡ Some x → x.0 ≡ n - 1
+  pub none : r ≡ None → get_or table (n * 4) 0 ≡ kind → get_or table (n * 4 + 1) 0 + 1 ≡ n → ⊥

@@ -6,10 +6,10 @@
 
 #![tactic(auto)]
 
-ghost use Rattle.std.specs.Prelude.{◌+◌, ◌*◌, ◌≤◌, length};
+ghost use Rattle.std.specs.Prelude.{◌≡◌, ◌+◌, ◌*◌, ◌≤◌, ◌<◌, length, get_or};
 ghost use Rattle.table.specs.Node.{node_at};
 ghost use Rattle.table.specs.Sound.{Sound};
-ghost use Rattle.fitting.specs.Fitting.{Stepped, Fitting, Fitted, Known, Below};
+ghost use Rattle.fitting.specs.Fitting.{Stepped, Fitting, Fitted, Known, Below, NextInRow};
 
 use table::{Column, NodeNo};
 use waiting::{Mode, Tag};
@@ -43,7 +43,7 @@ fn look(
     requires node_in_bounds { node.0 * 4 + 4 ≤ length table.now }
     requires sound { Sound 65536 node.0 (node_at table.now node.0) }
     requires in_bounds { (16384 ≤ length work.old) × (count ≤ 1024) × (column.0 ≤ 65536) }
-    ensures { Stepped table.now width node.0 mode count column.0 work.old result work.new }
+    ensures { Stepped table.now width node.0 mode.0 count column.0 work.old result work.new }
 {
     let at = (node.0 as usize) * 4;
     let kind = table[at];
@@ -59,14 +59,12 @@ fn look(
             NodeNo(a),
             count,
         ),
-        table::FLAT_ALT => match mode {
-            Mode::Broken => Step::Down(NodeNo(a), count),
-            Mode::Flat => Step::Down(NodeNo(b), count),
+        table::FLAT_ALT => if mode.0 == 0 {
+            Step::Down(NodeNo(a), count)
+        } else {
+            Step::Down(NodeNo(b), count)
         },
-        table::HARDLINE => match mode {
-            Mode::Broken => Step::Fits,
-            Mode::Flat => Step::Wide,
-        },
+        table::HARDLINE => if mode.0 == 0 { Step::Fits } else { Step::Wide },
         table::TEXT => {
             let end = column.0 + table[at + 3];
             if end <= width {
@@ -80,26 +78,34 @@ fn look(
     }
 }
 
-// How many Groups stand in a row from a node down, each the child of the one before it and next to it in the table, as far as there are
-// steps. The next one's place is known before this one's child is read, so that a long row doesn't wait for its reads.
+// The child of a node of this kind, where it stands next to it in the table. Its place is known before the child is read, so that a long row
+// doesn't wait for its reads.
+pub fn next_in_row(table: &[u32], kind: u32, node: NodeNo) -> Option<NodeNo>
+    requires node_in_bounds { node.0 * 4 + 4 ≤ length table.now }
+    requires child_below { get_or table.now (node.0 * 4) 0 ≡ kind → get_or table.now (node.0 * 4 + 1) 0 < node.0 }
+    ensures { NextInRow table.now kind node.0 result }
+{
+    let at = (node.0 as usize) * 4;
+    if table[at] == kind && table[at + 1] + 1 == node.0 {
+        Some(NodeNo(node.0 - 1))
+    } else {
+        None
+    }
+}
+
+// How many Groups stand in a row from a node down, as far as there are steps.
 fn groups_down(table: &[u32], node: NodeNo, steps: u32) -> u32
     requires { Known table.now node.0 }
     ensures { Below table.now node.0 steps result }
 {
-    let mut n = node.0;
-    let mut down = 0;
-    while down < steps {
-        let at = (n as usize) * 4;
-        if table[at] != table::GROUP {
+    let mut here = node;
+    for down in 0..steps {
+        let Some(next) = next_in_row(table, table::GROUP, here) else {
             return down;
-        }
-        if table[at + 1] + 1 != n {
-            return down;
-        }
-        down += 1;
-        n -= 1;
+        };
+        here = next;
     }
-    down
+    steps
 }
 
 // A node, flat; when that is done the waiting nodes in order, all read as broken. Nothing left says flat; or the node that is due when no step
@@ -117,7 +123,7 @@ fn walked(
     ensures { Fitted table.now width child.0 depth column.0 left work.old result work.new }
 {
     let mut node = NodeNo(child.0);
-    let mut mode = Mode::Flat;
+    let mut mode = Mode(1);
     let mut count: usize = 0;
     let mut at = depth;
     let mut col = Column(column.0);
@@ -141,16 +147,16 @@ fn walked(
                     count -= 1;
                     node = waiting::fit_node(work, count);
                 }
-                Step::Fits => break 'waiting Mode::Flat,
-                Step::Wide => break 'waiting Mode::Broken,
+                Step::Fits => break 'waiting Mode(1),
+                Step::Wide => break 'waiting Mode(0),
             }
         }
         let Some(next) = waiting::nearest(work, at, Tag::Node) else {
-            break 'waiting Mode::Flat;
+            break 'waiting Mode(1);
         };
         at = next;
         node = waiting::node_at(work, at);
-        mode = Mode::Broken;
+        mode = Mode(0);
     };
     Ok(Fit {
         mode: goes,

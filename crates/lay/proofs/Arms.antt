@@ -1,10 +1,10 @@
 -- What a kind's function leaves is where the step function leads, over plain variables: a Union, a Group, a trial given up.
 -- Assumes nothing.
-use mathlib.Core.Path.{◌≡◌, refl, sym, ap, ◌∙◌}
+use mathlib.Core.Path.{◌≡◌, sym, ap, ◌∙◌}
 use Prim.Native.Nat.{ℕ, zero, suc, ◌+◌, ◌-◌, ◌≤◌, ◌<◌}
 use native.Mathlib.Omega.{arith}
 use native.Mathlib.Nat.{zero-add, suc-add}
-use mathlib.Core.Bool.{Bool, false}
+use mathlib.Core.Bool.{false}
 use Rattle.std.specs.Prelude.{Option, Some, None, Result, Ok, Err}
 use mathlib.Core.List.{List, ◌∷◌}
 use lib.ListN.{length}
@@ -18,11 +18,9 @@ use Rattle.machine.specs.Well.{Backed, Stacked}
 use Rattle.page.specs.Reading.{page_of, Within}
 use Rattle.page.proofs.Events.{length-events}
 use Rattle.page.proofs.Pages.{taken_is, put_back}
-use Rattle.waiting.specs.Area.{tag_at, number_at, indent_at, mode_at, mode_in, tag_in, due_of, due_at, saved_words_at}
-use Rattle.waiting.specs.Stack.{mode_of, saved_of, saved_at, entry_at, stack_of, reached, Nearest}
+use Rattle.waiting.specs.Area.{tag_at, number_at, indent_at, mode_at, tag_in, due_of, due_at, saved_words_at}
+use Rattle.waiting.specs.Stack.{mode_of, flag_of, saved_of, saved_at, entry_at, stack_of, reached, Nearest}
 use Rattle.waiting.specs.declared.Due.{Due as DueNode}
-use Rattle.waiting.specs.declared.Mode.{Mode}
-use Rattle.waiting.specs.declared.Mode.TheVariants.{Broken, Flat}
 use Rattle.waiting.specs.declared.Tag.TheVariants.{Trial}
 use Rattle.waiting.specs.declared.Saved.{Saved as SavedWords}
 use Rattle.waiting.proofs.Laws.{trial_up, from-give_up}
@@ -34,14 +32,14 @@ use Rattle.lay.specs.declared.Turn.TheVariants.{Go}
 
 -- ---- what waits
 
-abbrev deeper : State → Bool → State
+abbrev deeper : State → ℕ → State
 deeper s o = record { page = s.page; left = s.left; past = o; depth = s.depth + 1 }
 
 -- a node of its own goes on, and w' holds one entry more
-module _ (s : State) (w w' : List ℕ) (due : DueNode) (a b i : ℕ) (m : Mode) (first : due ≡ due_of a i m) where
+module _ (s : State) (w w' : List ℕ) (due : DueNode) (a b i m : ℕ) (first : due ≡ due_of a i m) where
   pub union-kept : stack_of (s.depth + 1) w' ≡ trial b i (mode_of m) (saved_of (record { page = s.page; past = s.past })) ∷ stack_of s.depth w
-      → Kept s (Ok (Go (deeper s false) due)) w'
-      (λ p. on p s.left false (node a i (mode_of m) ∷ trial b i (mode_of m) (save p s.past) ∷ stack_of s.depth w))
+      → Kept s (Ok (Go (deeper s 0) due)) w'
+      (λ p. on p s.left false (node a i (mode_of m) ∷ trial b i (mode_of m) (save p (flag_of s.past)) ∷ stack_of s.depth w))
   union-kept second =
       record {
         turning = λ out ev in-s. record {
@@ -52,25 +50,21 @@ module _ (s : State) (w w' : List ℕ) (due : DueNode) (a b i : ℕ) (m : Mode) 
 
 -- ---- a Group
 
-not_flat : (m : Mode) → (m ≡ Flat → ⊥) → m ≡ Broken
-not_flat Broken h = refl
-not_flat Flat h = absurd (h refl)
-
 abbrev fewer : State → ℕ → State
 fewer s left = record { page = s.page; left = left; past = s.past; depth = s.depth }
 
-module _ {T w w' : List ℕ} {W a : ℕ} (i : ℕ) {m : Mode} (s : State) {v : Result Fit NodeNo} (not-flat : m ≡ Flat → ⊥) (same-stack : stack_of s.depth w' ≡ stack_of s.depth w)
+module _ {T w w' : List ℕ} {W a : ℕ} (i : ℕ) {m : ℕ} (s : State) {v : Result Fit NodeNo} (broken-now : m ≡ 0) (same-stack : stack_of s.depth w' ≡ stack_of s.depth w)
     (f : Fitted T W a s.depth s.page.column.0 s.left w v w') where
   abbrev leads : rules.Page → Turned
-  leads p = grouped T W (mode_of m) a i p s.left s.past (stack_of s.depth w)
+  leads p = grouped T W (mode_of m) a i p s.left (flag_of s.past) (stack_of s.depth w)
 
   -- by the mode that the fit test says
-  group-in : (mode : Mode) (left : ℕ) → v ≡ Ok (record { mode = mode; left = left }) → Kept s (Ok (Go (fewer s left) (due_of a i mode))) w' leads
-  group-in Flat left e = record { turning = λ out ev in-s. record { same = rw (not_flat m not-flat, ← f.said, e, same-stack); within = in-s } }
-  group-in Broken left e = record { turning = λ out ev in-s. record { same = rw (not_flat m not-flat, ← f.said, e, same-stack); within = in-s } }
+  group-in : (mode : ℕ) (left : ℕ) → v ≡ Ok (record { mode = record { 0 = mode }; left = left }) → Kept s (Ok (Go (fewer s left) (due_of a i mode))) w' leads
+  group-in (suc m) left e = record { turning = λ out ev in-s. record { same = rw (broken-now, ← f.said, e, same-stack); within = in-s } }
+  group-in zero left e = record { turning = λ out ev in-s. record { same = rw (broken-now, ← f.said, e, same-stack); within = in-s } }
 
-  pub group-goes : (fit : Fit) → v ≡ Ok fit → Kept s (Ok (Go (fewer s fit.left) (due_of a i fit.mode))) w' leads
-  group-goes fit e = group-in fit.mode fit.left e
+  pub group-goes : (fit : Fit) → v ≡ Ok fit → Kept s (Ok (Go (fewer s fit.left) (due_of a i fit.mode.0))) w' leads
+  group-goes fit e = group-in fit.mode.0 fit.left e
 
 -- ---- a trial given up
 
@@ -121,7 +115,7 @@ pub give-back : (s : State) (w out ev : List ℕ) (d : ℕ) (due : DueNode) (v :
     → Within s.page out ev → Backed (length out) s.page.used s.page.events (saved_at w d)
     → due ≡ due_at w d → v ≡ saved_words_at w d → q ≡ restored_of s.left v d
     → Turning (Ok (Go q due)) out ev w
-    (on (back (saved_at w d) (page_of s.page out ev)) s.left (saved_at w d).past (node (number_at w d) (indent_at w d) (mode_of (mode_in (mode_at w d))) ∷ stack_of d w))
+    (on (back (saved_at w d) (page_of s.page out ev)) s.left (saved_at w d).past (node (number_at w d) (indent_at w d) (mode_of (mode_at w d)) ∷ stack_of d w))
 give-back s w out ev d due v q in-s k ed ev' eq =
     record {
       same = rw (eq, ev', ed, put_back s.page (saved_words_at w d).page out ev (record { bytes = k.bytes; events = k.events }));

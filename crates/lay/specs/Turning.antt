@@ -6,7 +6,7 @@ use Rattle.rules.specs.Layout.{Limits, Page}
 use Rattle.machine.specs.Turn.{Turned, on, stop, put}
 use Rattle.machine.specs.Well.{Stacked}
 use Rattle.page.specs.Reading.{page_of, Within}
-use Rattle.waiting.specs.Stack.{top, stack_of}
+use Rattle.waiting.specs.Stack.{flag_of, top, stack_of}
 use Rattle.waiting.specs.declared.Saved.{Saved}
 use Rattle.lay.specs.declared.State.{State}
 use Rattle.lay.specs.declared.Turn.{Turn}
@@ -15,8 +15,8 @@ use Rattle.lay.specs.declared.Stopped.{Stopped}
 
 -- where a turn of the code leads, over the output, the events and the work area
 abbrev pub turned_of : Result Turn Stopped → List ℕ → List ℕ → List ℕ → Turned
-turned_of (Ok (Go s due)) out ev w = on (page_of s.page out ev) s.left s.past (top due ∷ stack_of s.depth w)
-turned_of (Ok (Done s)) out ev w = on (page_of s.page out ev) s.left s.past (stack_of s.depth w)
+turned_of (Ok (Go s due)) out ev w = on (page_of s.page out ev) s.left (flag_of s.past) (top due ∷ stack_of s.depth w)
+turned_of (Ok (Done s)) out ev w = on (page_of s.page out ev) s.left (flag_of s.past) (stack_of s.depth w)
 turned_of (Err e) out ev w = stop (number e.why) e.place.0 e.left
 
 -- its page lies within the buffers

@@ -13,7 +13,7 @@ ghost use Rattle.rules.specs.Layout.{nested, wrote, fed};
 ghost use Rattle.machine.specs.Turn.{give_up, grouped, on as going, event as noted};
 ghost use Rattle.machine.specs.Waiting.{node as waits, trial as tries, closing, save, next_indent};
 ghost use Rattle.waiting.specs.Area.{area_words, due_of};
-ghost use Rattle.waiting.specs.Stack.{mode_of, stack_of};
+ghost use Rattle.waiting.specs.Stack.{mode_of, flag_of, stack_of};
 ghost use Rattle.fitting.specs.Fitting.{Fitting};
 ghost use Rattle.table.specs.declared.refusal.Refusal.TheVariants.{NoOutput};
 ghost use Rattle.lay.specs.Turning.{restored_of, Kept, Wrote, Annotated, Restoring};
@@ -21,15 +21,16 @@ ghost use Rattle.lay.specs.Turning.{restored_of, Kept, Wrote, Annotated, Restori
 use fitting::Fit;
 use page::Page;
 use table::{Indent, NodeNo, Refusal};
-use waiting::{Due, Mode, Saved, Tag};
+use waiting::{Due, Saved, Tag};
 
-// A layout on its way: the steps left, whether a Text ended past width in the innermost trial, how many entries wait, and the page.
+// A layout on its way: the steps left, whether a Text ended past width in the innermost trial (0 is no), how many entries wait, and the page.
+// kept: a bool for `past` leaves bytes behind it that are copied at each turn; the figure is at `waiting::Mode`.
 // The state comes first in a turn and the page last in it: then a compiler keeps each of its numbers in a register of its own, a tenth of all
 // instructions (docs/PERFORMANCE.md).
 #[derive(Clone, Copy)]
 pub struct State {
     pub left: u32,
-    pub past: bool,
+    pub past: u32,
     pub depth: usize,
     pub page: Page,
 }
@@ -74,12 +75,12 @@ pub fn lay_text(
     requires column_bound { (s.page.column.0 ≤ 65536) × (s.page.used ≤ length out.old) × (length out.old ≤ 65536) }
     ensures { Wrote s out.old result out.new
         (wrote (take len (drop from text.now)) columns)
-        (s.past || ltb width (s.page.column.0 + columns)) }
+        (flag_of s.past || ltb width (s.page.column.0 + columns)) }
 {
     let Some(page) = page::write_text(text, from, len, columns, out, s.page) else {
         return Err(no_output(s));
     };
-    let past = s.past || width < page.column.0;
+    let past = if width < page.column.0 { 1 } else { s.past };
     Ok(Turn::Done(State { page, past, ..s }))
 }
 
@@ -89,7 +90,7 @@ pub fn lay_hardline(out: &mut [u8], work: &[u32], s: State, own: Indent) -> Resu
     requires used_in_bounds { (s.page.used ≤ length out.old) × (length out.old ≤ 65536) }
     ensures { Wrote s out.old result out.new
         (fed (next_indent own.0 (stack_of s.depth work.now)))
-        s.past }
+        (flag_of s.past) }
 {
     let indent = waiting::next_indent(work, s.depth, own);
     let Some(page) = page::feed_line(out, s.page, indent) else {
@@ -100,7 +101,7 @@ pub fn lay_hardline(out: &mut [u8], work: &[u32], s: State, own: Indent) -> Resu
 
 // A node is due with the indentation and the mode of another.
 pub fn child_of(due: Due, child: u32) -> Due
-    ensures { result ≡ due_of child due.indent.0 due.mode }
+    ensures { result ≡ due_of child due.indent.0 due.mode.0 }
 {
     Due {
         node: NodeNo(child),
@@ -117,9 +118,9 @@ pub fn lay_append(
     second: u32,
 ) -> Result<Turn, Stopped>
     requires { (s.depth < 1024) × (area_words ≤ length work.old) }
-    ensures { Kept s result work.new (λ p. going p s.left s.past
-        (waits first due.indent.0 (mode_of due.mode)
-        ∷ waits second due.indent.0 (mode_of due.mode)
+    ensures { Kept s result work.new (λ p. going p s.left (flag_of s.past)
+        (waits first due.indent.0 (mode_of due.mode.0)
+        ∷ waits second due.indent.0 (mode_of due.mode.0)
         ∷ stack_of s.depth work.old)) }
 {
     waiting::push_node(work, s.depth, child_of(due, second));
@@ -140,8 +141,8 @@ pub fn lay_union(
 ) -> Result<Turn, Stopped>
     requires { (s.depth < 1024) × (area_words ≤ length work.old) × (s.page.used ≤ 65536) × (s.page.events ≤ 4096) }
     ensures { Kept s result work.new (λ p. going p s.left false
-        (waits first due.indent.0 (mode_of due.mode)
-        ∷ tries second due.indent.0 (mode_of due.mode) (save p s.past)
+        (waits first due.indent.0 (mode_of due.mode.0)
+        ∷ tries second due.indent.0 (mode_of due.mode.0) (save p (flag_of s.past))
         ∷ stack_of s.depth work.old)) }
 {
     let saved = Saved {
@@ -150,7 +151,7 @@ pub fn lay_union(
     };
     waiting::push_trial(work, s.depth, child_of(due, second), saved);
     let deeper = State {
-        past: false,
+        past: 0,
         depth: s.depth + 1,
         ..s
     };
@@ -167,10 +168,10 @@ pub fn lay_group(
     child: u32,
 ) -> Result<Turn, Stopped>
     requires { Fitting table.now work.old width child s.depth s.page.column.0 }
-    ensures { Kept s result work.new (λ p. grouped table.now width (mode_of due.mode) child due.indent.0
-        p s.left s.past (stack_of s.depth work.old)) }
+    ensures { Kept s result work.new (λ p. grouped table.now width (mode_of due.mode.0) child due.indent.0
+        p s.left (flag_of s.past) (stack_of s.depth work.old)) }
 {
-    if let Mode::Flat = due.mode {
+    if due.mode.0 != 0 {
         return Ok(Turn::Go(s, child_of(due, child)));
     }
     match fitting::fitting(
@@ -239,8 +240,8 @@ pub fn lay_annotated(
     requires depth_bound { (s.depth < 1024) × (area_words ≤ length work.old) }
     requires event_words_in_bounds { (s.page.events * event_words ≤ length events.old) × (length events.old / event_words ≤ 4096) × (s.page.used ≤ 65536) }
     ensures { Annotated s events.old result events.new work.new
-        (λ L p. noted L due.node.0 1 label p s.left s.past
-        (waits child due.indent.0 (mode_of due.mode) ∷ closing due.node.0 label ∷ stack_of s.depth work.old)) }
+        (λ L p. noted L due.node.0 1 label p s.left (flag_of s.past)
+        (waits child due.indent.0 (mode_of due.mode.0) ∷ closing due.node.0 label ∷ stack_of s.depth work.old)) }
 {
     let Some(page) = page::note_event(events, s.page, 1, label) else {
         return Err(Stopped {

@@ -15,7 +15,7 @@ use mathlib.Core.List.{List, ◌∷◌, ◌++◌}
 use Rattle.std.specs.Prelude.{Option, Some, None}
 use lib.ListN.{length, take, replicate, length-append, length-replicate, length-set}
 use lib.Seq.{length-take-le, take-take, take-append-le}
-use lib.Dec.{leb, ltb}
+use lib.Dec.{ltb}
 use borrow.Author.Tests.{le-leb, lt-ltb, le-ltb}
 use Rattle.choice.specs.Pick.{pick}
 use Rattle.buffer.specs.Run as run
@@ -97,14 +97,6 @@ on-says false e = let z : ◌≡◌ {A = ℕ} 0 1 = cc in absurd (omega arith)
 pub full-says : (q : rules.Page) (fits : Bool) → full ≡ pick fits (on q) full → fits ≡ false
 full-says q true e = let z : ◌≡◌ {A = ℕ} 0 1 = cc in absurd (omega arith)
 full-says q false e = refl
-
-module _ {p : Page} {out out' : List ℕ} {r : Option Page} {grown : rules.Page → rules.Page} (w : Written p out r out' grown) where
-  pub written-full-says : r ≡ None → (ev : List ℕ) → leb (taken (grown (page_of p out ev))) (length out) ≡ false
-  written-full-says e ev = full-says _ _ (sym (ap (λ (x : Option Page). answer_of x out' ev) e) ∙ w.answer ev)
-
-  pub written-on-says : (q : Page) → r ≡ Some q → (ev : List ℕ)
-      → (leb (taken (grown (page_of p out ev))) (length out) ≡ true) × (page_of q out' ev ≡ grown (page_of p out ev))
-  written-on-says q e ev = on-says _ (sym (ap (λ (x : Option Page). answer_of x out' ev) e) ∙ w.answer ev)
 
 module _ {p : Page} {ev ev' : List ℕ} {r : Option Page} {grown : rules.Page → rules.Page} (n : Noted p ev r ev' grown) (out : List ℕ) (in_p : Within p out ev) where
   pub noted-full-says : r ≡ None → ltb (length (page_of p out ev).events) (length ev / event_words) ≡ false

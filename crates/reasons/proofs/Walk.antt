@@ -24,7 +24,7 @@ use Rattle.machine.specs.Well.{Nodes}
 use Rattle.std.specs.Prelude.{Option, Some, None}
 use Rattle.waiting.specs.declared.Tag.TheVariants.{Node}
 use Rattle.waiting.specs.Stack.{stack_of, reached, Nearest, from}
-use Rattle.waiting.specs.Area.{number_at, indent_at, mode_at, mode_in}
+use Rattle.waiting.specs.Area.{number_at, indent_at, mode_at}
 use Rattle.waiting.specs.Stack.{mode_of}
 use Rattle.waiting.proofs.Laws.{node_up, from-nodes}
 use Rattle.summary.specs.Promise as summary
@@ -131,7 +131,7 @@ module _ {T w : List ℕ} {d c W N : ℕ} (h : Met T w d c W N) where
 
     module _ (i : ℕ) (here : r ≡ Some i) where
       abbrev top : Entry
-      top = node (number_at w i) (indent_at w i) (mode_of (mode_in (mode_at w i)))
+      top = node (number_at w i) (indent_at w i) (mode_of (mode_at w i))
 
       next-list : stack_of (reached r) w ≡ top ∷ stack_of i w
       next-list = rw here (node_up w i (e.tagged i here))

@@ -1,6 +1,6 @@
 -- Some turns more: one after the others, what they keep, and Nests in a row.
 -- Assumes nothing.
-use mathlib.Core.Path.{◌≡◌, refl, sym, ap, ◌∙◌}
+use mathlib.Core.Path.{◌≡◌, refl, sym, ap, ◌∙◌, subst}
 use Prim.Native.Nat.{ℕ, zero, suc, ◌+◌, ◌-◌, ◌*◌, ◌≤◌, ◌<◌}
 use native.Mathlib.Omega.{arith}
 use mathlib.Core.Bool.{Bool}
@@ -9,6 +9,7 @@ use lib.ListN.{length, get_or}
 use Rattle.table.specs.Node.{Node, nest, Way, way_of, node_of, node_at}
 use Rattle.table.specs.Sound.{AllSound, Sound}
 use Rattle.table.specs.declared.Indent.{Indent}
+use Rattle.table.specs.declared.NodeNo.{NodeNo}
 use Rattle.table.proofs.Nodes.{node-is}
 use Rattle.rules.specs.Layout.{Limits, Page, Mode, nested}
 use Rattle.machine.specs.Waiting.{Entry, node}
@@ -90,9 +91,12 @@ module _ {T : List ℕ} {h : Due} (f : Held T h) (kind : get_or T (h.node.0 * 4)
           more = suc c.more;
           said = λ E p o w table.
               again-more E c.more (on p steps o (top start ∷ w)) ∙ ap (again E 1) (c.said E p o w table) ∙ ap (λ (k : ℕ). again E 1 (on p k o (top h ∷ w))) e
-              ∙ nest-turn E p (left - 1) o n (n - 1) (get_or T (n * 4 + 2) 0) h.indent.0 (way_of (get_or T (n * 4 + 3) 0)) (mode_of h.mode) w (ap (λ (t : List ℕ). node_at t n) table ∙ node-is T n 4 kind ∙ ap (λ (x : ℕ). nest x (get_or T (n * 4 + 2) 0) (way_of (get_or T (n * 4 + 3) 0))) a)
-              ∙ ap (λ (x : ℕ). on p (left - 1) o (node (n - 1) x (mode_of h.mode) ∷ w)) (sym ei);
+              ∙ nest-turn E p (left - 1) o n (n - 1) (get_or T (n * 4 + 2) 0) h.indent.0 (way_of (get_or T (n * 4 + 3) 0)) (mode_of h.mode.0) w (ap (λ (t : List ℕ). node_at t n) table ∙ node-is T n 4 kind ∙ ap (λ (x : ℕ). nest x (get_or T (n * 4 + 2) 0) (way_of (get_or T (n * 4 + 3) 0))) a)
+              ∙ ap (λ (x : ℕ). on p (left - 1) o (node (n - 1) x (mode_of h.mode.0) ∷ w)) (sym ei);
         }
 
-    pub falls-next : {steps left : ℕ} {start : Due} → Falling T steps start left h → 0 < left → Falling T steps start (left - 1) lower
-    falls-next c some = record { held = held_next; came = came-next _ _ _ c.came some }
+    pub falls-next : (x : NodeNo) → x.0 ≡ n - 1 → {steps left : ℕ} {start : Due} → Falling T steps start left h → 0 < left
+        → Falling T steps start (left - 1) (record { node = x; indent = i; mode = h.mode })
+    falls-next x ex {steps} {left} {start} c some =
+        let next : Falling T steps start (left - 1) lower = record { held = held_next; came = came-next _ _ _ c.came some } in
+        subst (λ (k : ℕ). Falling T steps start (left - 1) (record { node = record { 0 = k }; indent = i; mode = h.mode })) (sym ex) next

@@ -12,7 +12,6 @@ use Rattle.choice.specs.Pick.{pick}
 use Rattle.table.specs.Sound.{AllSound}
 use Rattle.table.specs.declared.refusal.Refusal.TheVariants.{NoSteps}
 use Rattle.table.specs.Refusal.{number}
-use Rattle.waiting.specs.declared.Mode.TheVariants.{Broken}
 use Rattle.rules.specs.Layout.{Page, Report, marked}
 use Rattle.machine.specs.Waiting.{Entry, node, trial, closing}
 use Rattle.machine.specs.Turn.{Env, Turned, on, stop, turn, run, layout, ended}
@@ -20,7 +19,7 @@ use Rattle.machine.specs.Well.{Well, weight}
 use Rattle.machine.specs.Reached.{Reached, Stops}
 use Rattle.machine.proofs.Kept.{Next, turn-next, nodes_of}
 use Rattle.waiting.specs.Area.{due_of}
-use Rattle.waiting.specs.Stack.{top, stack_of}
+use Rattle.waiting.specs.Stack.{flag_of, top, stack_of}
 use Rattle.waiting.specs.declared.Due.{Due}
 use Rattle.waiting.proofs.Laws.{length-stack}
 use Rattle.page.specs.Reading.{events_of, page_of, Within}
@@ -33,9 +32,7 @@ use Rattle.lay.specs.declared.Turn.TheVariants.{Go, Done}
 use Rattle.lay.specs.declared.Stopped.{Stopped}
 use Rattle.render.specs.Visit.{Start, Ready, env_of, again}
 use Rattle.render.specs.TakeUp.{take_up, up_from, TurnedUp}
-use Rattle.render.specs.Best.{Laid, end_of, RanTo}
-use Rattle.render.specs.declared.End.{End}
-use Rattle.render.specs.declared.Ran.{Ran}
+use Rattle.render.specs.Best.{Laid, RanTo}
 use Rattle.render.specs.declared.Ran.TheVariants.{Ended, AtLimit}
 use Rattle.render.proofs.Coming.{Comes, comes-on}
 
@@ -132,11 +129,11 @@ module _ (T tx : List ℕ) (W limit N : ℕ) where
     pub left : s.left ≤ limit
     pub turns : ℕ
     pub enough : 3 * s.left + weight (top h ∷ stack_of s.depth w) < turns
-    pub reached : Reached (E out ev) (N - 1) (page_of s.page out ev) s.left s.past (top h ∷ stack_of s.depth w)
-    pub said : run (E out ev) turns (page_of s.page out ev) s.left s.past (top h ∷ stack_of s.depth w) ≡ layout (E out₀ ev₀) (N - 1)
+    pub reached : Reached (E out ev) (N - 1) (page_of s.page out ev) s.left (flag_of s.past) (top h ∷ stack_of s.depth w)
+    pub said : run (E out ev) turns (page_of s.page out ev) s.left (flag_of s.past) (top h ∷ stack_of s.depth w) ≡ layout (E out₀ ev₀) (N - 1)
 
   pub going_start : (out ev w : List ℕ) → Start T tx out ev w W N
-      → Going out ev w out ev w (due_of (N - 1) 0 Broken) (record { page = record { column = record { 0 = 0 }; used = 0; events = 0 }; left = limit; past = false; depth = 0 })
+      → Going out ev w out ev w (due_of (N - 1) 0 0) (record { page = record { column = record { 0 = 0 }; used = 0; events = 0 }; left = limit; past = 0; depth = 0 })
   unfolding layout events_of
   going_start out ev w h =
       record {
@@ -181,7 +178,7 @@ module _ {T tx : List ℕ} {W limit N : ℕ} {out₀ ev₀ w₀ out ev w : List 
         laid = laid-due e;
         ends =
             record {
-              reached = rw (← g.outs, ← g.evs) (subst (λ k. Reached here (N - 1) (page_of s.page out ev) k s.past (top h ∷ stack_of s.depth w)) e g.reached);
+              reached = rw (← g.outs, ← g.evs) (subst (λ k. Reached here (N - 1) (page_of s.page out ev) k (flag_of s.past) (top h ∷ stack_of s.depth w)) e g.reached);
               node = omega (arith, g.well.stack.0.number);
               column = omega (arith, t, g.well.column, g.within.bytes, g.start.room);
               depth = omega (arith, g.well.stack.0.number, length-stack s.depth w, g.start.small);
@@ -211,16 +208,16 @@ module _ {T tx : List ℕ} {W limit N : ℕ} {out₀ ev₀ w₀ out ev w : List 
       unfolding turn
       reach =
           let f : s.left ≡ suc (s.left - 1) = omega arith in
-          let t : Reaches here N g.start.valid (suc (s.left - 1)) (3 * suc (s.left - 1) + weight (top h ∷ stack_of s.depth w)) (run here g.turns (page_of s.page out ev) (suc (s.left - 1)) s.past (top h ∷ stack_of s.depth w)) (turned_of r out' ev' w') =
-          rw (p.turning limit).same (run_on here N g.start.valid g.turns (page_of s.page out ev) (suc (s.left - 1)) s.past (top h) (stack_of s.depth w) p.more g.well (omega (arith, g.enough))) in
-          reaches-from here N g.start.valid (suc (s.left - 1)) s.left _ _ _ _ (turned_of r out' ev' w') (omega arith) (omega arith) (sym g.said ∙ ap (λ (k : ℕ). run here g.turns (page_of s.page out ev) k s.past (top h ∷ stack_of s.depth w)) f) t
+          let t : Reaches here N g.start.valid (suc (s.left - 1)) (3 * suc (s.left - 1) + weight (top h ∷ stack_of s.depth w)) (run here g.turns (page_of s.page out ev) (suc (s.left - 1)) (flag_of s.past) (top h ∷ stack_of s.depth w)) (turned_of r out' ev' w') =
+          rw (p.turning limit).same (run_on here N g.start.valid g.turns (page_of s.page out ev) (suc (s.left - 1)) (flag_of s.past) (top h) (stack_of s.depth w) p.more g.well (omega (arith, g.enough))) in
+          reaches-from here N g.start.valid (suc (s.left - 1)) s.left _ _ _ _ (turned_of r out' ev' w') (omega arith) (omega arith) (sym g.said ∙ ap (λ (k : ℕ). run here g.turns (page_of s.page out ev) k (flag_of s.past) (top h ∷ stack_of s.depth w)) f) t
 
       -- and the states that it comes through are the run's
       came : Comes here (N - 1) (turned_of r out' ev' w')
       unfolding turn
       came =
           let f : s.left ≡ suc (s.left - 1) = omega arith in
-          let z = subst (λ k. Reached here (N - 1) (page_of s.page out ev) k s.past (top h ∷ stack_of s.depth w)) f g.reached in
+          let z = subst (λ k. Reached here (N - 1) (page_of s.page out ev) k (flag_of s.past) (top h ∷ stack_of s.depth w)) f g.reached in
           rw (p.turning limit).same (comes-on here (N - 1) p.more z)
 
       pub going_on : {c : Due} {a : State} → r ≡ Ok (Go a c) → Going T tx W limit N out₀ ev₀ w₀ out' ev' w' c a
@@ -272,12 +269,3 @@ module _ {T tx : List ℕ} {W limit N : ℕ} {out₀ ev₀ w₀ out ev w : List 
       ran-stop {x} e =
           let stops : Stops (E T tx W limit N out₀ ev₀) (N - 1) (number x.why) x.place.0 x.left = rw (← g.outs, ← g.evs) (rw e at came) in
           record { laid = laid_stop e; ends = λ seven. stops }
-
--- ---- the end alone
-
-module _ {T tx out ev : List ℕ} {W limit N : ℕ} {r : Ran} {out' ev' w' : List ℕ} (p : RanTo T tx out ev W limit N r out' ev' w') where
-  pub best-ended : {e : Result End Stopped} → r ≡ Ended e → Laid T tx out ev W limit N e out' ev'
-  best-ended same = subst (λ r. Laid T tx out ev W limit N (end_of r) out' ev') same p.laid
-
-  pub best-due : {s : State} {h : Due} → r ≡ AtLimit s h → Laid T tx out ev W limit N (Err (record { why = NoSteps; place = h.node; left = 0 })) out' ev'
-  best-due same = subst (λ r. Laid T tx out ev W limit N (end_of r) out' ev') same p.laid

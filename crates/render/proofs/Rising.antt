@@ -1,9 +1,9 @@
 -- What waits is taken up: what the loop keeps, and how each end keeps it.
 -- Assumes nothing.
 use mathlib.Core.Path.{◌≡◌, refl, sym, ap, ◌∙◌}
-use Prim.Native.Nat.{ℕ, ◌-◌, ◌*◌, ◌/◌, ◌≤◌, ◌<◌}
+use Prim.Native.Nat.{ℕ, zero, suc, ◌-◌, ◌*◌, ◌/◌, ◌≤◌, ◌<◌}
 use native.Mathlib.Omega.{arith}
-use mathlib.Core.Bool.{Bool, true, false}
+use mathlib.Core.Bool.{true}
 use Rattle.std.specs.Prelude.{Option, Some, None, Result, Ok, Err}
 use mathlib.Core.List.{List}
 use lib.ListN.{length}
@@ -18,7 +18,7 @@ use Rattle.page.specs.Putting.{Noted}
 use Rattle.page.specs.declared.Page.{Page}
 use Rattle.page.proofs.Pages.{noted-full-says, noted-on-says, noted-counts}
 use Rattle.waiting.specs.Area.{area_words, tag_in, tag_at, number_at, indent_at, due_at, saved_words_at}
-use Rattle.waiting.specs.Stack.{stack_of}
+use Rattle.waiting.specs.Stack.{flag_of, stack_of}
 use Rattle.waiting.specs.declared.Due.{Due}
 use Rattle.waiting.specs.declared.Tag.TheVariants.{Node, Trial, Closing}
 use Rattle.waiting.specs.declared.Saved.{Saved as SavedWords}
@@ -33,7 +33,7 @@ use Rattle.render.specs.TakeUp.{Rises, take_up, TakenUp}
 
 -- where what waits leads, over the output
 abbrev leads : Limits → State → List ℕ → List ℕ → List ℕ → Turned
-leads L s out ev w = take_up L (page_of s.page out ev) s.left s.past (stack_of s.depth w)
+leads L s out ev w = take_up L (page_of s.page out ev) s.left (flag_of s.past) (stack_of s.depth w)
 
 -- s₀ and ev₀ where the loop began, s and ev now: from here it leads where it led from the start
 pub record Rising (ev₀ w : List ℕ) (s₀ : State) (ev : List ℕ) (s : State) : Type 0 where
@@ -60,6 +60,10 @@ rise-start ev w s h =
       said = λ L out N e in-s waits. (waits, refl);
     }
 
+flag-set : (o : ℕ) → (o ≡ 0 → ⊥) → flag_of o ≡ true
+flag-set zero h = absurd (h refl)
+flag-set (suc o) h = refl
+
 pub go-is-not-done : (due : Due) (s q : State) → ◌≡◌ {A = Result Turn Stopped} (Ok (Go s due)) (Ok (Done q)) → q.depth ≡ 0
 go-is-not-done due s q e = let z : ◌≡◌ {A = ℕ} 0 1 = cc in absurd (omega arith)
 
@@ -70,7 +74,7 @@ done-is : (s q : State) → s.depth ≡ 0 → ◌≡◌ {A = Result Turn Stopped
 done-is s q z e = let f : s ≡ q = cc in sym (ap (λ (x : State). x.depth) f) ∙ z
 
 -- one entry less waits
-abbrev lower : State → Page → Bool → State
+abbrev lower : State → Page → ℕ → State
 lower s page past = record { page = page; left = s.left; past = past; depth = s.depth - 1 }
 
 module _ {ev₀ w : List ℕ} {s₀ : State} {ev : List ℕ} {s : State} (h : Rising ev₀ w s₀ ev s) where
@@ -93,14 +97,14 @@ module _ {ev₀ w : List ℕ} {s₀ : State} {ev : List ℕ} {s : State} (h : Ri
         let on-top = node-top w s.depth some t in
         record {
           turning = λ L out N e in-s waits. record {
-            same = rw p (sym (ap (take_up L (page_of s.page out ev) s.left s.past) on-top)) ∙ (h.said L out N e in-s waits).1;
+            same = rw p (sym (ap (take_up L (page_of s.page out ev) s.left (flag_of s.past)) on-top)) ∙ (h.said L out N e in-s waits).1;
             within = h.within out in-s;
           };
           empty = λ q e. go-is-not-done due _ q e;
         }
 
     -- a trial's arm is done: it is given up, or kept
-    pub rise_give : (due : Due) (v : SavedWords) (q : State) → tag_in (tag_at w d) ≡ Trial → s.past ≡ true
+    pub rise_give : (due : Due) (v : SavedWords) (q : State) → tag_in (tag_at w d) ≡ Trial → (s.past ≡ 0 → ⊥)
         → due ≡ due_at w d → v ≡ saved_words_at w d → q ≡ restored_of s.left v d → TakenUp s₀ ev₀ w (Ok (Go q due)) ev
     unfolding take_up
     rise_give due v q t o pd pv eq =
@@ -110,11 +114,11 @@ module _ {ev₀ w : List ℕ} {s₀ : State} {ev : List ℕ} {s : State} (h : Ri
               let g = h.said L out N e in-s waits in
               let own = rw on-top at g.0 in
               let b = give-back s w out ev d due v q (h.within out in-s) own.1 pd pv eq in
-              record { same = b.same ∙ sym (rw (on-top, o)) ∙ g.1; within = b.within };
+              record { same = b.same ∙ sym (rw (on-top, flag-set s.past o)) ∙ g.1; within = b.within };
           empty = λ q' e. go-is-not-done due q q' e;
         }
 
-    pub rise_keep : (v : SavedWords) → tag_in (tag_at w d) ≡ Trial → s.past ≡ false → v ≡ saved_words_at w d → Rising ev₀ w s₀ ev (lower s s.page v.past)
+    pub rise_keep : (v : SavedWords) → tag_in (tag_at w d) ≡ Trial → s.past ≡ 0 → v ≡ saved_words_at w d → Rising ev₀ w s₀ ev (lower s s.page v.past)
     unfolding take_up
     rise_keep v t o pv =
         let on-top = trial-top w s.depth some t in

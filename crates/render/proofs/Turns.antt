@@ -3,13 +3,13 @@
 use mathlib.Core.Path.{◌≡◌, refl, sym, ap, subst}
 use Prim.Native.Nat.{ℕ, suc, ◌+◌, ◌*◌}
 use native.Mathlib.Omega.{arith}
-use Rattle.std.specs.Prelude.{Result, Ok, Err}
+use Rattle.std.specs.Prelude.{Result, Ok}
 use mathlib.Core.List.{List, ◌∷◌}
 use lib.ListN.{length}
 use Rattle.machine.specs.Turn.{Turned, turn}
 use Rattle.machine.specs.Well.{Well, weight}
 use Rattle.machine.proofs.Kept.{Next, turn-next, stacked-length}
-use Rattle.waiting.specs.Stack.{top, stack_of}
+use Rattle.waiting.specs.Stack.{flag_of, top, stack_of}
 use Rattle.waiting.specs.declared.Due.{Due}
 use Rattle.waiting.proofs.Laws.{length-stack}
 use Rattle.page.specs.Reading.{page_of, Within}
@@ -23,7 +23,7 @@ use Rattle.lay.specs.declared.Stopped.{Stopped}
 use Rattle.render.specs.Visit.{Ready, Visited, env_of, visited, again}
 use Rattle.render.specs.TakeUp.{Rises, take_up, up_from, TakenUp, TurnedUp}
 use Rattle.render.proofs.Again.{again-next}
-use Rattle.render.proofs.Rising.{go-is-not-done, stop-is-not-done}
+use Rattle.render.proofs.Rising.{go-is-not-done}
 
 -- a page and what waits, by the code's counts
 well_of : (T tx out ev w : List ℕ) (W limit : ℕ) (s : State) (h : Due) (q : Ready T tx out ev w W s h) → Well (env_of T tx out ev W limit).limits q.N (page_of s.page out ev) (top h ∷ stack_of s.depth w)
@@ -41,7 +41,7 @@ module _ {T tx out ev w : List ℕ} {W : ℕ} {s : State} {h : Due} (q : Ready T
   unfolding turn
   next limit more =
       let E = env_of T tx out ev W limit in
-      again-next E q.N q.start.valid more (suc s.left) _ (visited T tx out ev w W limit s h) (turn-next E q.N q.start.valid (page_of s.page out ev) (suc s.left) s.past (top h) (stack_of s.depth w) (well_of T tx out ev w W limit s h q))
+      again-next E q.N q.start.valid more (suc s.left) _ (visited T tx out ev w W limit s h) (turn-next E q.N q.start.valid (page_of s.page out ev) (suc s.left) (flag_of s.past) (top h) (stack_of s.depth w) (well_of T tx out ev w W limit s h q))
 
   module _ {r : Result Turn Stopped} {out' ev' w' : List ℕ} (p : Visited T tx out ev w W s h r out' ev' w') where
     pub turn_go : {c : Due} {a : State} → r ≡ Ok (Go a c) → TurnedUp T tx out ev w W s h (Ok (Go a c)) out' ev' w'
@@ -49,11 +49,6 @@ module _ {T tx out ev w : List ℕ} {W : ℕ} {s : State} {h : Due} (q : Ready T
     turn_go {c} {a} e =
         let p' : Visited T tx out ev w W s h (Ok (Go a c)) out' ev' w' = rw e at p in
         record { more = p'.more; turning = λ limit. let t = p'.turning limit in record { same = ap (up_from (env_of T tx out ev W limit).limits) t.same; within = t.within }; empty = λ b f. go-is-not-done c a b f }
-
-    pub turn-stop : {x : Stopped} → r ≡ Err x → TurnedUp T tx out ev w W s h (Err x) out' ev' w'
-    turn-stop {x} e =
-        let p' : Visited T tx out ev w W s h (Err x) out' ev' w' = rw e at p in
-        record { more = p'.more; turning = λ limit. let t = p'.turning limit in record { same = ap (up_from (env_of T tx out ev W limit).limits) t.same; within = t.within }; empty = λ b f. stop-is-not-done x b f }
 
     module _ {a : State} (e : r ≡ Ok (Done a)) (len : length ev' ≡ length ev) where
       done : Visited T tx out ev w W s h (Ok (Done a)) out' ev' w'

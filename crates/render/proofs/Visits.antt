@@ -14,10 +14,9 @@ use Rattle.rules.specs.Layout.{Limits, Page, nested}
 use Rattle.machine.specs.Turn.{Turned, on, put, visit, give_up}
 use Rattle.machine.proofs.Kept.{nodes_of, nested-le}
 use Rattle.waiting.specs.Area.{area_words, due_of}
-use Rattle.waiting.specs.Stack.{mode_of, top, stack_of}
+use Rattle.waiting.specs.Stack.{mode_of, flag_of, top, stack_of}
 use Rattle.waiting.specs.declared.Due.{Due}
-use Rattle.waiting.specs.declared.Mode.TheVariants.{Broken, Flat}
-use Rattle.waiting.proofs.Laws.{length-stack}
+use Rattle.waiting.proofs.Laws.{flat_mode, length-stack}
 use Rattle.fitting.specs.Fitting.{Fitting}
 use Rattle.table.proofs.Nodes.{node-is, sound_longer}
 use Rattle.page.specs.Reading.{page_of}
@@ -89,8 +88,8 @@ module _ {T tx out ev w : List ℕ} {W : ℕ} {s : State} {h : Due} (q : Ready T
   -- by the step function, if the node's kind is k
   abbrev leads : ℕ → ℕ → Turned
   leads k limit =
-      visit (env_of T tx out ev W limit) n (of-kind k) h.indent.0 (mode_of h.mode)
-      (page_of s.page out ev) s.left s.past (stack_of s.depth w)
+      visit (env_of T tx out ev W limit) n (of-kind k) h.indent.0 (mode_of h.mode.0)
+      (page_of s.page out ev) s.left (flag_of s.past) (stack_of s.depth w)
 
   -- by the kind
   visit_by : (k : ℕ) {r : Result Turn Stopped} {out' ev' w' : List ℕ} → get_or T (n * 4) 0 ≡ k
@@ -110,17 +109,17 @@ module _ {T tx out ev w : List ℕ} {W : ℕ} {s : State} {h : Due} (q : Ready T
 
   -- a child is due, with an indentation
   visit-child : (k : ℕ) (c : Due) → get_or T (n * 4) 0 ≡ k
-      → ((limit : ℕ) → on (page_of s.page out ev) s.left s.past (top c ∷ stack_of s.depth w) ≡ leads k limit)
+      → ((limit : ℕ) → on (page_of s.page out ev) s.left (flag_of s.past) (top c ∷ stack_of s.depth w) ≡ leads k limit)
       → Visited T tx out ev w W s h (Ok (Go s c)) out ev w
   visit-child k c e is = visit_by k e (λ limit. record { same = is limit; within = q.within })
 
-  pub visit-broken : (c : Due) → get_or T (n * 4) 0 ≡ 3 → h.mode ≡ Broken → c ≡ due_of (get_or T (n * 4 + 1) 0) h.indent.0 h.mode
+  pub visit-broken : (c : Due) → get_or T (n * 4) 0 ≡ 3 → h.mode.0 ≡ 0 → c ≡ due_of (get_or T (n * 4 + 1) 0) h.indent.0 h.mode.0
       → Visited T tx out ev w W s h (Ok (Go s c)) out ev w
   visit-broken c e z ec = visit-child 3 c e (λ limit. rw (ec, z))
 
-  pub visit-flat : (c : Due) → get_or T (n * 4) 0 ≡ 3 → h.mode ≡ Flat → c ≡ due_of (get_or T (n * 4 + 2) 0) h.indent.0 h.mode
+  pub visit-flat : (c : Due) → get_or T (n * 4) 0 ≡ 3 → (h.mode.0 ≡ 0 → ⊥) → c ≡ due_of (get_or T (n * 4 + 2) 0) h.indent.0 h.mode.0
       → Visited T tx out ev w W s h (Ok (Go s c)) out ev w
-  visit-flat c e z ec = visit-child 3 c e (λ limit. rw (ec, z))
+  visit-flat c e z ec = visit-child 3 c e (λ limit. rw (ec, flat_mode h.mode.0 z))
 
   -- a Nest, and those in a row below it
   module _ (i : Indent) (e : get_or T (n * 4) 0 ≡ 4)
@@ -144,7 +143,7 @@ module _ {T tx out ev w : List ℕ} {W : ℕ} {s : State} {h : Due} (q : Ready T
           more = c.more;
           turning = λ limit.
               record {
-                same = sym (rw (node-is T n 4 e, ← ei) (c.said (env_of T tx out ev W limit) (page_of s.page out ev) s.past (stack_of s.depth w) refl));
+                same = sym (rw (node-is T n 4 e, ← ei) (c.said (env_of T tx out ev W limit) (page_of s.page out ev) (flag_of s.past) (stack_of s.depth w) refl));
                 within = q.within;
               };
         }

@@ -9,7 +9,7 @@ use Rattle.machine.specs.Well.{Nodes}
 use Rattle.machine.specs.Reached.{Reached, Stops}
 use Rattle.page.specs.Reading.{events_of, page_of}
 use Rattle.render.specs.Visit.{env_of}
-use Rattle.waiting.specs.Stack.{top, stack_of}
+use Rattle.waiting.specs.Stack.{flag_of, top, stack_of}
 use Rattle.waiting.specs.declared.Due.{Due}
 use Rattle.lay.specs.declared.State.{State}
 use Rattle.lay.specs.declared.Stopped.{Stopped}
@@ -53,7 +53,7 @@ pub record Laid (T tx out ev : List ℕ) (W limit N : ℕ) (r : Result End Stopp
 
 -- a node of a run was due in layout with no step left
 pub record Halted (E : Env) (N : ℕ) (s : State) (h : Due) (out ev w : List ℕ) : Type 0 where
-  pub reached : Reached E (N - 1) (page_of s.page out ev) 0 s.past (top h ∷ stack_of s.depth w)
+  pub reached : Reached E (N - 1) (page_of s.page out ev) 0 (flag_of s.past) (top h ∷ stack_of s.depth w)
   pub node : h.node.0 < N
   pub column : s.page.column.0 ≤ 65536
   pub depth : s.depth ≤ 1024

@@ -6,7 +6,7 @@ use Rattle.rules.specs.Layout.{Limits, Page, marked}
 use Rattle.machine.specs.Waiting.{Entry, node, trial, closing, back}
 use Rattle.machine.specs.Turn.{Turned, on, stop}
 use Rattle.waiting.specs.Area.{area_words}
-use Rattle.waiting.specs.Stack.{stack_of}
+use Rattle.waiting.specs.Stack.{flag_of, stack_of}
 use Rattle.waiting.specs.declared.Due.{Due}
 use Rattle.page.specs.Reading.{page_of, Within}
 use Rattle.lay.specs.Turning.{Turning, Waits}
@@ -41,7 +41,7 @@ Rises s ev w =
 -- over a state that is well, and any output; where no node is due nothing is left waiting
 pub record TakenUp (s : State) (ev w : List ℕ) (r : Result Turn Stopped) (ev' : List ℕ) : Type 0 where
   pub turning : (L : Limits) (out : List ℕ) (N : ℕ) → L.slots ≡ length ev / event_words → Within s.page out ev → Waits N (length out) s w
-      → Turning r out ev' w (take_up L (page_of s.page out ev) s.left s.past (stack_of s.depth w))
+      → Turning r out ev' w (take_up L (page_of s.page out ev) s.left (flag_of s.past) (stack_of s.depth w))
   pub empty : (q : State) → r ≡ Ok (Done q) → q.depth ≡ 0
 
 -- a visit, and what is taken up after it

@@ -8,7 +8,7 @@ use Rattle.machine.specs.Waiting.{Entry}
 use Rattle.machine.specs.Turn.{Env, Turned, on, stop, turn, visit}
 use Rattle.machine.specs.Well.{Stacked}
 use Rattle.waiting.specs.Area.{area_words}
-use Rattle.waiting.specs.Stack.{mode_of, top, stack_of}
+use Rattle.waiting.specs.Stack.{mode_of, flag_of, top, stack_of}
 use Rattle.waiting.specs.declared.Due.{Due}
 use Rattle.fitting.specs.Fitting.{Known}
 use Rattle.page.specs.Reading.{page_of, takes, Within}
@@ -46,8 +46,8 @@ pub record Ready (T tx out ev w : List ℕ) (W : ℕ) (s : State) (h : Due) : Ty
 -- the visit of the step function
 abbrev pub visited : List ℕ → List ℕ → List ℕ → List ℕ → List ℕ → ℕ → ℕ → State → Due → Turned
 visited T tx out ev w W limit s h =
-    visit (env_of T tx out ev W limit) h.node.0 (node_at T h.node.0) h.indent.0 (mode_of h.mode)
-    (page_of s.page out ev) s.left s.past (stack_of s.depth w)
+    visit (env_of T tx out ev W limit) h.node.0 (node_at T h.node.0) h.indent.0 (mode_of h.mode.0)
+    (page_of s.page out ev) s.left (flag_of s.past) (stack_of s.depth w)
 
 -- so many turns of the step function more, as far as there are steps
 abbrev pub again : Env → ℕ → Turned → Turned

@@ -36,8 +36,7 @@ pub struct Nested {
     pub due: Due,
 }
 
-// Nests in a row are gone down from the node due, each the child of the one before it and next to it in the table, as far as there are
-// steps. The next one's place is known before this one's child is read, so that a long row doesn't wait for its reads.
+// Nests in a row are gone down from the node due, as far as there are steps.
 fn nests_down(table: &[u32], steps: u32, start: Due) -> Nested
     requires { Held table.now start }
     ensures { Came table.now steps start result }
@@ -45,17 +44,13 @@ fn nests_down(table: &[u32], steps: u32, start: Due) -> Nested
     let mut left = steps;
     let mut due = start;
     while 0 < left {
-        let n = due.node.0;
-        let at = (n as usize) * 4;
-        if table[at] != table::NEST {
+        let Some(node) = fitting::next_in_row(table, table::NEST, due.node) else {
             return Nested { left, due };
-        }
-        if table[at + 1] + 1 != n {
-            return Nested { left, due };
-        }
+        };
+        let at = (due.node.0 as usize) * 4;
         let indent = lay::nest_by(due.indent, table[at + 2], table[at + 3]);
         due = Due {
-            node: NodeNo(n - 1),
+            node,
             indent,
             ..due
         };
@@ -87,9 +82,10 @@ fn visit(
         table::NIL => Ok(Turn::Done(s)),
         table::APPEND => lay::lay_append(work, s, due, a, table[at + 2]),
         table::GROUP => lay::lay_group(table, work, width, s, due, a),
-        table::FLAT_ALT => match due.mode {
-            Mode::Broken => Ok(Turn::Go(s, lay::child_of(due, a))),
-            Mode::Flat => Ok(Turn::Go(s, lay::child_of(due, table[at + 2]))),
+        table::FLAT_ALT => if due.mode.0 == 0 {
+            Ok(Turn::Go(s, lay::child_of(due, a)))
+        } else {
+            Ok(Turn::Go(s, lay::child_of(due, table[at + 2])))
         },
         table::NEST => {
             let child = Due {
@@ -137,7 +133,7 @@ fn take_up_ends(events: &mut [u32], work: &[u32], state: State) -> Result<Turn, 
             }
             Tag::Trial => {
                 let saved = waiting::saved_at(work, d);
-                if s.past {
+                if s.past != 0 {
                     return Ok(Turn::Go(lay::restored(s, saved, d), waiting::due_at(work, d)));
                 }
                 s.past = saved.past;
@@ -213,7 +209,7 @@ pub fn run(
     let mut due = Due {
         node: NodeNo(nodes - 1),
         indent: Indent(0),
-        mode: Mode::Broken,
+        mode: Mode(0),
     };
     let mut s = State {
         page: Page {
@@ -222,7 +218,7 @@ pub fn run(
             events: 0,
         },
         left: limit,
-        past: false,
+        past: 0,
         depth: 0,
     };
     loop {

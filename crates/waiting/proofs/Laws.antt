@@ -6,22 +6,19 @@ use Rattle.std.specs.Prelude.{Option, Some, None}
 use mathlib.Core.Bool.{Bool, true, false}
 use mathlib.Core.List.{List, [], ◌∷◌}
 use native.Mathlib.Omega.{arith}
-use native.Mathlib.Numerals.{add-one}
+use native.Mathlib.Numerals.{add-one, add-two, add-three}
 use native.Mathlib.Nat.{add-zero}
 use lib.ListN.{get_or, length, set, length-set}
 use lib.Seq.{get_or-set_same, get_or-set_other, sets}
 use lib.Dec.{eqb}
 use borrow.Author.Tests.{eq-eqb, ne_eqb}
-use mir.Val.{bool_byte}
-use Rattle.rules.specs.Layout.{Page}
+use Rattle.rules.specs.Layout.{Page, flat}
 use Rattle.machine.specs.Waiting.{Saved, Entry, node, trial, closing, next_indent}
 use Rattle.machine.specs.Fit.{reread}
 use Rattle.machine.specs.Turn.{give_up}
 use Rattle.machine.specs.Well.{Nodes}
-use Rattle.waiting.specs.Area.{entry_words, saved_words, saved_from, fit_from, area_words, number_at, indent_at, mode_at, tag_at, mode_in, mode_word, tag_in, tag_word, flag_of}
+use Rattle.waiting.specs.Area.{entry_words, saved_words, saved_from, fit_from, area_words, number_at, indent_at, mode_at, tag_at, tag_in, tag_word}
 use Rattle.waiting.specs.Stack.{mode_of, saved_of, entry_of, saved_at, entry_at, top, stack_of, items_of, Same, FitPushed, tag_of, from, Nearest}
-use Rattle.waiting.specs.declared.Mode.{Mode}
-use Rattle.waiting.specs.declared.Mode.TheVariants.{Broken, Flat}
 use Rattle.waiting.specs.declared.Tag.{Tag}
 use Rattle.waiting.specs.declared.Tag.TheVariants.{Node, Trial, Closing}
 use Rattle.waiting.specs.declared.Due.{Due}
@@ -29,11 +26,12 @@ use Rattle.waiting.specs.declared.Saved.{Saved as SavedWords}
 
 -- ---- words
 
--- a mode, a tag and a flag by their own word
-mode_back : (m : Mode) → mode_in (mode_word m) ≡ m
-mode_back Broken = refl
-mode_back Flat = refl
+-- a mode that is not 0
+pub flat_mode : (m : ℕ) → (m ≡ 0 → ⊥) → mode_of m ≡ flat
+flat_mode zero h = absurd (h refl)
+flat_mode (suc m) h = refl
 
+-- a tag by its own word
 tag_back : (t : Tag) → tag_in (tag_word t) ≡ t
 tag_back Node = refl
 tag_back Trial = refl
@@ -43,18 +41,13 @@ tag_back Closing = refl
 tag_same : (t u : Tag) → tag_word t ≡ tag_word u → t ≡ u
 tag_same t u e = sym (tag_back t) ∙ ap tag_in e ∙ tag_back u
 
--- a flag by the word that is 1 where it is set
-pub flag_byte : (b : Bool) → flag_of (bool_byte b) ≡ b
-flag_byte true = refl
-flag_byte false = refl
-
 -- ---- heights
 
 pub length-stack : (d : ℕ) (w : List ℕ) → length (stack_of d w) ≡ d
 length-stack zero w = refl
 length-stack (suc d) w = ap suc (length-stack d w)
 
-pub length-items : (m : Mode) (k : ℕ) (w : List ℕ) → length (items_of m k w) ≡ k
+pub length-items : (m : ℕ) (k : ℕ) (w : List ℕ) → length (items_of m k w) ≡ k
 length-items m zero w = refl
 length-items m (suc k) w = ap suc (length-items m k w)
 
@@ -66,11 +59,11 @@ stack_top w d lt =
 
 -- and what it is by its tag
 pub node-top : (w : List ℕ) (d : ℕ) → 0 < d → tag_in (tag_at w (d - 1)) ≡ Node
-    → stack_of d w ≡ node (number_at w (d - 1)) (indent_at w (d - 1)) (mode_of (mode_in (mode_at w (d - 1)))) ∷ stack_of (d - 1) w
+    → stack_of d w ≡ node (number_at w (d - 1)) (indent_at w (d - 1)) (mode_of (mode_at w (d - 1))) ∷ stack_of (d - 1) w
 node-top w d lt t = stack_top w d lt ∙ rw t
 
 pub trial-top : (w : List ℕ) (d : ℕ) → 0 < d → tag_in (tag_at w (d - 1)) ≡ Trial
-    → stack_of d w ≡ trial (number_at w (d - 1)) (indent_at w (d - 1)) (mode_of (mode_in (mode_at w (d - 1)))) (saved_at w (d - 1)) ∷ stack_of (d - 1) w
+    → stack_of d w ≡ trial (number_at w (d - 1)) (indent_at w (d - 1)) (mode_of (mode_at w (d - 1))) (saved_at w (d - 1)) ∷ stack_of (d - 1) w
 trial-top w d lt t = stack_top w d lt ∙ rw t
 
 pub closing-top : (w : List ℕ) (d : ℕ) → 0 < d → tag_in (tag_at w (d - 1)) ≡ Closing
@@ -79,11 +72,11 @@ closing-top w d lt t = stack_top w d lt ∙ rw t
 
 -- the same at a height
 pub node_up : (w : List ℕ) (h : ℕ) → tag_in (tag_at w h) ≡ Node
-    → stack_of (suc h) w ≡ node (number_at w h) (indent_at w h) (mode_of (mode_in (mode_at w h))) ∷ stack_of h w
+    → stack_of (suc h) w ≡ node (number_at w h) (indent_at w h) (mode_of (mode_at w h)) ∷ stack_of h w
 node_up w h t = rw t
 
 pub trial_up : (w : List ℕ) (h : ℕ) → tag_in (tag_at w h) ≡ Trial
-    → stack_of (suc h) w ≡ trial (number_at w h) (indent_at w h) (mode_of (mode_in (mode_at w h))) (saved_at w h) ∷ stack_of h w
+    → stack_of (suc h) w ≡ trial (number_at w h) (indent_at w h) (mode_of (mode_at w h)) (saved_at w h) ∷ stack_of h w
 trial_up w h t = rw t
 
 -- ---- areas with the same entries
@@ -150,6 +143,9 @@ sets_at (v ∷ vs) l at (suc k) h lt =
     let e : at + suc k ≡ suc at + k = omega arith in
     rw e (sets_at vs (set l at v) (suc at) k (simp length-set (omega arith)) (omega arith))
 
+pub stores4 : (w : List ℕ) (at a b c e : ℕ) → set (set (set (set w at a) (at + 1) b) (at + 2) c) (at + 3) e ≡ sets w at (a ∷ b ∷ c ∷ e ∷ [])
+stores4 w at a b c e = rw (add-one, add-two, add-three)
+
 -- ---- a push
 
 module _ (w : List ℕ) (d : ℕ) (deep : d < 1024) (area : area_words ≤ length w) where
@@ -168,7 +164,7 @@ module _ (w : List ℕ) (d : ℕ) (deep : d < 1024) (area : area_words ≤ lengt
 
     -- what stands at the entry d then, over any words that trials saved
     entry-stored : (w' : List ℕ) → ((i : ℕ) → i < saved_from → get_or w' i 0 ≡ get_or (sets w (d * entry_words) words) i 0)
-        → entry_at w' d ≡ entry_of (tag_in t) a b (mode_in c) (saved_at w' d)
+        → entry_at w' d ≡ entry_of (tag_in t) a b c (saved_at w' d)
     entry-stored w' h =
         let here = d * entry_words in
         let e : (k : ℕ) → k < 4 → get_or w' (here + k) 0 ≡ get_or words k 0 =
@@ -176,50 +172,50 @@ module _ (w : List ℕ) (d : ℕ) (deep : d < 1024) (area : area_words ≤ lengt
         let z : get_or w' here 0 ≡ a = rw add-zero at (e 0 (omega arith)) in
         rw (e 3 (omega arith), z, e 1 (omega arith), e 2 (omega arith))
 
-    pushed : (w' : List ℕ) → w' ≡ sets w (d * entry_words) words → stack_of (d + 1) w' ≡ entry_of (tag_in t) a b (mode_in c) (saved_at w' d) ∷ stack_of d w
+    pushed : (w' : List ℕ) → w' ≡ sets w (d * entry_words) words → stack_of (d + 1) w' ≡ entry_of (tag_in t) a b c (saved_at w' d) ∷ stack_of d w
     pushed w' q =
-        let e : entry_at w' d ≡ entry_of (tag_in t) a b (mode_in c) (saved_at w' d) = entry-stored w' (λ i lt. ap (λ (l : List ℕ). get_or l i 0) q) in
+        let e : entry_at w' d ≡ entry_of (tag_in t) a b c (saved_at w' d) = entry-stored w' (λ i lt. ap (λ (l : List ℕ). get_or l i 0) q) in
         let r : stack_of d w' ≡ stack_of d w = stack_same d w w' (rw q (stored words refl)) in
         rw (add-one, e, r)
 
-    -- the same with what a trial saved stored behind, its flag as the word o
-    saved-stored : (v : SavedWords) (o : ℕ) (w₁ w₂ : List ℕ) → flag_of o ≡ v.past → w₁ ≡ sets w (d * entry_words) words
-        → w₂ ≡ sets w₁ (saved_from + d * saved_words) (v.page.column.0 ∷ v.page.used ∷ v.page.events ∷ o ∷ [])
-        → length w₁ ≡ length w → stack_of (d + 1) w₂ ≡ entry_of (tag_in t) a b (mode_in c) (saved_of v) ∷ stack_of d w
-    saved-stored v o w₁ w₂ eo e₁ e₂ len =
+    -- the same with what a trial saved stored behind
+    saved-stored : (v : SavedWords) (w₁ w₂ : List ℕ) → w₁ ≡ sets w (d * entry_words) words
+        → w₂ ≡ sets w₁ (saved_from + d * saved_words) (v.page.column.0 ∷ v.page.used ∷ v.page.events ∷ v.past ∷ [])
+        → length w₁ ≡ length w → stack_of (d + 1) w₂ ≡ entry_of (tag_in t) a b c (saved_of v) ∷ stack_of d w
+    saved-stored v w₁ w₂ e₁ e₂ len =
         let at = saved_from + d * saved_words in
-        let vs : List ℕ = v.page.column.0 ∷ v.page.used ∷ v.page.events ∷ o ∷ [] in
+        let vs : List ℕ = v.page.column.0 ∷ v.page.used ∷ v.page.events ∷ v.past ∷ [] in
         let other : (i : ℕ) → i < at → get_or w₂ i 0 ≡ get_or w₁ i 0 =
         λ i lt. ap (λ (l : List ℕ). get_or l i 0) e₂ ∙ sets-other vs w₁ at i (λ le. absurd (omega arith)) in
         let back : (k : ℕ) → k < 4 → get_or w₂ (at + k) 0 ≡ get_or vs k 0 =
         λ k lt. ap (λ (l : List ℕ). get_or l (at + k) 0) e₂ ∙ sets_at vs w₁ at k (omega arith) lt in
         let first : get_or w₂ at 0 ≡ v.page.column.0 = rw add-zero at (back 0 (omega arith)) in
-        let e : entry_at w₂ d ≡ entry_of (tag_in t) a b (mode_in c) (saved_at w₂ d) =
+        let e : entry_at w₂ d ≡ entry_of (tag_in t) a b c (saved_at w₂ d) =
         entry-stored w₂ (λ i lt. other i (omega arith) ∙ ap (λ (l : List ℕ). get_or l i 0) e₁) in
-        let f : saved_at w₂ d ≡ saved_of v = rw (first, back 1 (omega arith), back 2 (omega arith), back 3 (omega arith), eo) in
+        let f : saved_at w₂ d ≡ saved_of v = rw (first, back 1 (omega arith), back 2 (omega arith), back 3 (omega arith)) in
         let below : Same d w₁ w₂ = record { entries = λ i lt. other i (omega arith); saved = λ i lt. other (saved_from + i) (omega arith) } in
         let h : stack_of d w₂ ≡ stack_of d w = stack_same d w w₂ (same_trans d w w₁ w₂ (rw e₁ (stored words refl)) below) in
         rw (add-one, h, e, f)
 
-  -- the three kinds of entry, with the words m and t of a mode and a tag
-  pub pushed_node : (due : Due) (w' : List ℕ) {m t : ℕ} → m ≡ mode_word due.mode → t ≡ tag_word Node
-      → w' ≡ sets w (d * entry_words) (due.node.0 ∷ due.indent.0 ∷ m ∷ t ∷ []) → stack_of (d + 1) w' ≡ top due ∷ stack_of d w
-  pushed_node due w' {m} {t} em et e = pushed due.node.0 due.indent.0 m t w' e ∙ rw (em, et, mode_back)
+  -- the three kinds of entry, with the word t of a tag
+  pub pushed_node : (due : Due) (w' : List ℕ) {t : ℕ} → t ≡ tag_word Node
+      → w' ≡ sets w (d * entry_words) (due.node.0 ∷ due.indent.0 ∷ due.mode.0 ∷ t ∷ []) → stack_of (d + 1) w' ≡ top due ∷ stack_of d w
+  pushed_node due w' {t} et e = pushed due.node.0 due.indent.0 due.mode.0 t w' e ∙ rw et
 
   pub pushed_closing : (n l : ℕ) (w' : List ℕ) {t : ℕ} → t ≡ tag_word Closing
       → w' ≡ sets w (d * entry_words) (n ∷ l ∷ 0 ∷ t ∷ []) → stack_of (d + 1) w' ≡ closing n l ∷ stack_of d w
   pushed_closing n l w' {t} et e = pushed n l 0 t w' e ∙ rw et
 
-  pub pushed_trial : (second : Due) (v : SavedWords) (o : ℕ) (w₁ w₂ : List ℕ) {m t : ℕ} → m ≡ mode_word second.mode → t ≡ tag_word Trial
-      → flag_of o ≡ v.past → w₁ ≡ sets w (d * entry_words) (second.node.0 ∷ second.indent.0 ∷ m ∷ t ∷ [])
-      → w₂ ≡ sets w₁ (saved_from + d * saved_words) (v.page.column.0 ∷ v.page.used ∷ v.page.events ∷ o ∷ []) → length w₁ ≡ length w
-      → stack_of (d + 1) w₂ ≡ trial second.node.0 second.indent.0 (mode_of second.mode) (saved_of v) ∷ stack_of d w
-  pushed_trial second v o w₁ w₂ {m} {t} em et eo e₁ e₂ len =
-      saved-stored second.node.0 second.indent.0 m t v o w₁ w₂ eo e₁ e₂ len ∙ rw (em, et, mode_back)
+  pub pushed_trial : (second : Due) (v : SavedWords) (w₁ w₂ : List ℕ) {t : ℕ} → t ≡ tag_word Trial
+      → w₁ ≡ sets w (d * entry_words) (second.node.0 ∷ second.indent.0 ∷ second.mode.0 ∷ t ∷ [])
+      → w₂ ≡ sets w₁ (saved_from + d * saved_words) (v.page.column.0 ∷ v.page.used ∷ v.page.events ∷ v.past ∷ []) → length w₁ ≡ length w
+      → stack_of (d + 1) w₂ ≡ trial second.node.0 second.indent.0 (mode_of second.mode.0) (saved_of v) ∷ stack_of d w
+  pushed_trial second v w₁ w₂ {t} et e₁ e₂ len =
+      saved-stored second.node.0 second.indent.0 second.mode.0 t v w₁ w₂ e₁ e₂ len ∙ rw et
 
 -- ---- the fit test's nodes
 
-items-set : (m : Mode) (k : ℕ) (w : List ℕ) (j v : ℕ) → fit_from + k ≤ j → items_of m k (set w j v) ≡ items_of m k w
+items-set : (m : ℕ) (k : ℕ) (w : List ℕ) (j v : ℕ) → fit_from + k ≤ j → items_of m k (set w j v) ≡ items_of m k w
 items-set m zero w j v h = refl
 items-set m (suc k) w j v h =
     let e : get_or (set w j v) (fit_from + k) 0 ≡ get_or w (fit_from + k) 0 =
@@ -240,7 +236,7 @@ fit_pushed w k v h =
 -- ---- a search
 
 -- an entry has the tag that it was made by
-tag_kept : (t : Tag) (n i : ℕ) (m : Mode) (s : Saved) → tag_of (entry_of t n i m s) ≡ tag_word t
+tag_kept : (t : Tag) (n i : ℕ) (m : ℕ) (s : Saved) → tag_of (entry_of t n i m s) ≡ tag_word t
 tag_kept Node n i m s = refl
 tag_kept Trial n i m s = refl
 tag_kept Closing n i m s = refl
@@ -327,6 +323,6 @@ module _ (w : List ℕ) (d own : ℕ) where
 
   pub indent-next : {r : Option ℕ} (h : ℕ) → Nearest w d Node r → r ≡ Some h → indent_at w h ≡ next_indent own (stack_of d w)
   indent-next h f e =
-      let found : from 0 (stack_of d w) ≡ node (number_at w h) (indent_at w h) (mode_of (mode_in (mode_at w h))) ∷ stack_of h w =
+      let found : from 0 (stack_of d w) ≡ node (number_at w h) (indent_at w h) (mode_of (mode_at w h)) ∷ stack_of h w =
       f.found ∙ rw e (node_up w h (f.tagged h e)) in
       sym (sym (from-indent own (stack_of d w)) ∙ ap (next_indent own) found)

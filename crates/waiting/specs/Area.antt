@@ -1,7 +1,5 @@
 -- The work area by its words: the entries, what trials saved, and the nodes that a fit test has still to walk.
-use Rattle.std.specs.Prelude.{ℕ, zero, suc, ◌+◌, ◌*◌, Bool, true, false, List, get_or}
-use Rattle.waiting.specs.declared.Mode.{Mode}
-use Rattle.waiting.specs.declared.Mode.TheVariants.{Broken, Flat}
+use Rattle.std.specs.Prelude.{ℕ, zero, suc, ◌+◌, ◌*◌, List, get_or}
 use Rattle.waiting.specs.declared.Tag.{Tag}
 use Rattle.waiting.specs.declared.Tag.TheVariants.{Node, Trial, Closing}
 use Rattle.waiting.specs.declared.Due.{Due}
@@ -51,25 +49,11 @@ tag_in zero = Node
 tag_in (suc zero) = Trial
 tag_in (suc (suc t)) = Closing
 
--- a mode's word, and the mode that a word stands for: 0 is broken, any other flat
-abbrev pub mode_word : Mode → ℕ
-mode_word Broken = 0
-mode_word Flat = 1
-
-abbrev pub mode_in : ℕ → Mode
-mode_in zero = Broken
-mode_in (suc m) = Flat
-
--- a flag by its word: 0 is no
-abbrev pub flag_of : ℕ → Bool
-flag_of zero = false
-flag_of (suc o) = true
-
-abbrev pub due_of : ℕ → ℕ → Mode → Due
-due_of n i m = record { node = record { 0 = n }; indent = record { 0 = i }; mode = m }
+abbrev pub due_of : ℕ → ℕ → ℕ → Due
+due_of n i m = record { node = record { 0 = n }; indent = record { 0 = i }; mode = record { 0 = m } }
 
 abbrev pub due_at : List ℕ → ℕ → Due
-due_at w d = due_of (number_at w d) (indent_at w d) (mode_in (mode_at w d))
+due_at w d = due_of (number_at w d) (indent_at w d) (mode_at w d)
 
 abbrev pub saved_word : List ℕ → ℕ → ℕ → ℕ
 saved_word w d k = get_or w (saved_from + d * saved_words + k) 0
@@ -78,5 +62,5 @@ abbrev pub saved_words_at : List ℕ → ℕ → Saved
 saved_words_at w d =
     record {
       page = record { column = record { 0 = get_or w (saved_from + d * saved_words) 0 }; used = saved_word w d 1; events = saved_word w d 2 };
-      past = flag_of (saved_word w d 3);
+      past = saved_word w d 3;
     }

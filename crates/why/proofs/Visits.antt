@@ -25,9 +25,7 @@ use Rattle.machine.proofs.Due.{outcome, group-due, other-due}
 use Rattle.waiting.specs.Area.{area_words}
 use Rattle.waiting.specs.Stack.{mode_of, stack_of}
 use Rattle.waiting.specs.declared.Due.{Due}
-use Rattle.waiting.specs.declared.Mode as code
-use Rattle.waiting.specs.declared.Mode.TheVariants.{Broken, Flat}
-use Rattle.waiting.proofs.Laws.{same_less, stack_same}
+use Rattle.waiting.proofs.Laws.{flat_mode, same_less, stack_same}
 use Rattle.reasons.specs.Promise as reasons
 use Rattle.summary.specs.declared.Reason.{Reason}
 use Rattle.lay.specs.declared.State.{State}
@@ -76,10 +74,6 @@ module _ (E : Env) (at : ℕ → Tree) (ws : List layout.Entry) (c : ℕ) where
 
 -- ---- the code's answers
 
-not_flat : (m : code.Mode) → (m ≡ Flat → ⊥) → m ≡ Broken
-not_flat Broken h = refl
-not_flat Flat h = absurd (h refl)
-
 module _ {T w : List ℕ} {W : ℕ} {s : State} {h : Due} (v : Visiting T w W s h) where
   abbrev n : ℕ
   n = h.node.0
@@ -115,21 +109,20 @@ module _ {T w : List ℕ} {W : ℕ} {s : State} {h : Due} (v : Visiting T w W s 
           child = child-small e;
         }
 
-    pub visit-group : (x : Reason) → get_or T (n * 4) 0 ≡ 2 → (h.mode ≡ Flat → ⊥)
+    pub visit-group : (x : Reason) → get_or T (n * 4) 0 ≡ 2 → h.mode.0 ≡ 0
         → reasons.Because T w' s.depth (get_or T (n * 4 + 1) 0) s.page.column.0 W x → Visited T w W s h (Ok x)
     visit-group x kind mode b =
         record {
           group = λ k m bytes. ap told (b bytes ∙ ap (λ l. reason W (tree T bytes (get_or T (n * 4 + 1) 0)) (waiting (tree T bytes) l) s.page.column.0) same-stack);
-          flat = λ ne. absurd (ne (not_flat h.mode mode));
+          flat = λ ne. absurd (ne mode);
           other = λ ne. absurd (ne kind);
         }
 
   pub visit-other : (get_or T (n * 4) 0 ≡ 2 → ⊥) → Visited T w W s h (Err NoVisit)
   visit-other ne = record { group = λ k m bytes. absurd (ne k); flat = λ q. refl; other = λ q. refl }
 
-  pub visit-flat : h.mode ≡ Flat → Visited T w W s h (Err NoVisit)
-  visit-flat e =
-      record { group = λ k m bytes. let z : Flat ≡ Broken = sym e ∙ m in absurd (cc); flat = λ q. refl; other = λ q. refl }
+  pub visit-flat : (h.mode.0 ≡ 0 → ⊥) → Visited T w W s h (Err NoVisit)
+  visit-flat ne = record { group = λ k m bytes. absurd (ne m); flat = λ q. refl; other = λ q. refl }
 
 -- ---- by the rules
 
@@ -152,21 +145,22 @@ module _ {T tx out ev w : List ℕ} {W : ℕ} (st : Start T tx out ev w W (lengt
       }
 
   pub due-told : (r : Answer) → Visited T w' W s h r → why_of r ≡ at_visit W (outcome E (length T / 4) st.some st.small st.valid st.room)
-  due-told r v = by (eqb (get_or T (h.node.0 * 4) 0) 2) refl h.mode refl
+  due-told r v = by (eqb (get_or T (h.node.0 * 4) 0) 2) refl (eqb h.mode.0 0) refl
     where
-      by : (b : Bool) → eqb (get_or T (h.node.0 * 4) 0) 2 ≡ b → (m : code.Mode) → h.mode ≡ m
+      by : (b : Bool) → eqb (get_or T (h.node.0 * 4) 0) 2 ≡ b → (q : Bool) → eqb h.mode.0 0 ≡ q
           → why_of r ≡ at_visit W (outcome E (length T / 4) st.some st.small st.valid st.room)
-      by true kind Broken mode =
+      by true kind true mode =
           let k2 = eqb-true (get_or T (h.node.0 * 4) 0) 2 kind in
-          v.group k2 mode tx
-          ∙ sym (group-due E (length T / 4) st.some st.small st.valid st.room h.node.0 h.indent.0 (get_or T (h.node.0 * 4 + 1) 0) (rw mode at z.reached) (node-is T h.node.0 2 k2) W)
-      by true kind Flat mode =
-          let ne : h.mode ≡ Broken → ⊥ = λ e. let z : Flat ≡ Broken = sym mode ∙ e in absurd (cc) in
-          v.flat ne
-          ∙ sym (other-due E (length T / 4) st.some st.small st.valid st.room h.node.0 h.indent.0 (mode_of h.mode) z.reached
-          (rw mode (flat-other E (tree T tx) _ _ (node_at T h.node.0))) W)
-      by false kind m mode =
+          let m0 = eqb-true h.mode.0 0 mode in
+          v.group k2 m0 tx
+          ∙ sym (group-due E (length T / 4) st.some st.small st.valid st.room h.node.0 h.indent.0 (get_or T (h.node.0 * 4 + 1) 0) (rw m0 at z.reached) (node-is T h.node.0 2 k2) W)
+      by true kind false mode =
+          let m0 = eqb-false h.mode.0 0 mode in
+          v.flat m0
+          ∙ sym (other-due E (length T / 4) st.some st.small st.valid st.room h.node.0 h.indent.0 (mode_of h.mode.0) z.reached
+          (rw (flat_mode h.mode.0 m0) (flat-other E (tree T tx) _ _ (node_at T h.node.0))) W)
+      by false kind q mode =
           let k2 = eqb-false (get_or T (h.node.0 * 4) 0) 2 kind in
           v.other k2
-          ∙ sym (other-due E (length T / 4) st.some st.small st.valid st.room h.node.0 h.indent.0 (mode_of h.mode) z.reached
-          (other-node E (tree T tx) _ _ T h.node.0 (mode_of h.mode) k2) W)
+          ∙ sym (other-due E (length T / 4) st.some st.small st.valid st.room h.node.0 h.indent.0 (mode_of h.mode.0) z.reached
+          (other-node E (tree T tx) _ _ T h.node.0 (mode_of h.mode.0) k2) W)

@@ -11,7 +11,6 @@ use Rattle.machine.specs.Well.{Nodes}
 use Rattle.waiting.specs.Area.{area_words}
 use Rattle.waiting.specs.Stack.{stack_of}
 use Rattle.waiting.specs.declared.Due.{Due}
-use Rattle.waiting.specs.declared.Mode.TheVariants.{Broken}
 use Rattle.summary.specs.Promise.{reason_of}
 use Rattle.lay.specs.declared.State.{State}
 use Rattle.render.specs.Visit.{env_of}
@@ -64,7 +63,7 @@ pub record Visiting (T w : List ℕ) (W : ℕ) (s : State) (h : Due) : Type 0 wh
 
 -- a Group met broken has the rules' reason, whatever the text bytes are; any other visit is 13
 pub record Visited (T w : List ℕ) (W : ℕ) (s : State) (h : Due) (r : Answer) : Type 0 where
-  pub group : get_or T (h.node.0 * 4) 0 ≡ 2 → h.mode ≡ Broken → (bytes : List ℕ)
+  pub group : get_or T (h.node.0 * 4) 0 ≡ 2 → h.mode.0 ≡ 0 → (bytes : List ℕ)
       → why_of r ≡ told (reason W (tree T bytes (get_or T (h.node.0 * 4 + 1) 0)) (waiting (tree T bytes) (stack_of s.depth w)) s.page.column.0)
-  pub flat : (h.mode ≡ Broken → ⊥) → why_of r ≡ why_refused 13
+  pub flat : (h.mode.0 ≡ 0 → ⊥) → why_of r ≡ why_refused 13
   pub other : (get_or T (h.node.0 * 4) 0 ≡ 2 → ⊥) → why_of r ≡ why_refused 13

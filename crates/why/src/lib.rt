@@ -21,7 +21,7 @@ use lay::{State, Stopped};
 use render::{End, Ran};
 use summary::Reason;
 use table::{Fault, NodeNo, Refusal};
-use waiting::{Due, Mode};
+use waiting::Due;
 
 // Why no reason is told: the layout is refused; or the step is no visit of a Group met broken in layout.
 #[derive(Clone, Copy)]
@@ -88,7 +88,7 @@ fn visit(
     if table[at] != table::GROUP {
         return Err(WhyRefused::NoVisit);
     }
-    if let Mode::Flat = due.mode {
+    if due.mode.0 != 0 {
         return Err(WhyRefused::NoVisit);
     }
     let child = NodeNo(table[at + 1]);

@@ -1,5 +1,6 @@
 -- `fitting::look` meets its contract: an arm for each kind, by the law that Arms.antt has for it.
 -- Assumes nothing.
+use Rattle.waiting.proofs.Laws.{flat_mode}
 use Rattle.table.proofs.Nodes.{node-is, node-fail, text-columns}
 use Rattle.fitting.proofs.Arms.{look-nil, look-append, look_one, look-through, look-flat_alt, look-hardline, look-hardline-flat, look-text, look-text-past, look-fail}
 use native.Mathlib.Omega.{arith}
@@ -18,19 +19,19 @@ returns-in-1 c = look-append c.in-1.is c.push_fit.ensures
 pub returns-in-2 : goal.returns-in-2
 returns-in-2 c = look_one c.in-2.is
 
-pub returns-in-Broken : goal.returns-in-Broken
-returns-in-Broken c =
-    look-flat_alt {m = c.args.mode} _ c.in-3.is (rw c.in-Broken.is)
+pub returns-then-mode-eq0 : goal.returns-then-mode-eq0
+returns-then-mode-eq0 c =
+    look-flat_alt {m = c.args.mode.0} _ c.in-3.is (rw c.if-mode-eq0.true)
 
-pub returns-in-Flat : goal.returns-in-Flat
-returns-in-Flat c =
-    look-flat_alt {m = c.args.mode} _ c.in-3.is (rw c.in-Flat.is)
+pub returns-else-mode-eq0 : goal.returns-else-mode-eq0
+returns-else-mode-eq0 c =
+    look-flat_alt {m = c.args.mode.0} _ c.in-3.is (rw (flat_mode _ c.if-mode-eq0.false))
 
-pub returns-in-Broken-mode : goal.returns-in-Broken-mode
-returns-in-Broken-mode c = look-hardline c.in-5.is c.in-Broken-mode.is
+pub returns-then-mode-eq0-2 : goal.returns-then-mode-eq0-2
+returns-then-mode-eq0-2 c = look-hardline c.in-5.is c.if-mode-eq0-2.true
 
-pub returns-in-Flat-mode : goal.returns-in-Flat-mode
-returns-in-Flat-mode c = look-hardline-flat c.in-5.is c.in-Flat-mode.is
+pub returns-else-mode-eq0-2 : goal.returns-else-mode-eq0-2
+returns-else-mode-eq0-2 c = look-hardline-flat c.in-5.is c.if-mode-eq0-2.false
 
 pub returns-then-end-width : goal.returns-then-end-width
 returns-then-end-width c = look-text c.in-6.is c.if-end-width.true

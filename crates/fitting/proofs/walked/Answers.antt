@@ -15,11 +15,11 @@ shape_of-work-then-steps-eq0 c = (c.down.invariant _ _ _ c.waiting.invariant).lo
 pub returns-then-steps-eq0 : goal.returns-then-steps-eq0
 returns-then-steps-eq0 c =
     let here = c.down.invariant _ _ _ c.waiting.invariant in
-    walk_fitted here.start.deep here.same (walk-due c.waiting.mode c.down.count here c.if-steps-eq0.true)
+    walk_fitted here.start.deep here.same (walk-due c.waiting.mode.0 c.down.count here c.if-steps-eq0.true)
 
 pub look-requires : goal.look-requires
 look-requires c =
-    let asks = visit_asks c.waiting.mode c.down.count (c.down.invariant _ _ _ c.waiting.invariant) in
+    let asks = visit_asks c.waiting.mode.0 c.down.count (c.down.invariant _ _ _ c.waiting.invariant) in
     record { node_in_bounds = asks.0; sound = asks.1.0; in_bounds = asks.1.1 }
 
 pub down-preserved-in-Down : goal.down-preserved-in-Down
@@ -31,7 +31,7 @@ pub fit_node-node-requires : goal.fit_node-node-requires
 fit_node-node-requires c =
     let here = c.down.invariant _ _ _ c.waiting.invariant in
     let count = c.down.count in
-    let mode = c.waiting.mode in
+    let mode = c.waiting.mode.0 in
     (omega (arith, count_small mode count here), area-kept mode count here c.look.auto.work)
 
 pub down-preserved : goal.down-preserved
@@ -45,14 +45,14 @@ pub nearest-requires : goal.nearest-requires
 nearest-requires c =
     let here = c.down.invariant _ _ _ c.waiting.invariant in
     let count = c.down.count in
-    let mode = c.waiting.mode in
+    let mode = c.waiting.mode.0 in
     (height-small mode count here, area-kept mode count here c.look.auto.work)
 
 pub node_at-node-requires : goal.node_at-node-requires
 node_at-node-requires c =
     let here = c.down.invariant _ _ _ c.waiting.invariant in
     let count = c.down.count in
-    let mode = c.waiting.mode in
+    let mode = c.waiting.mode.0 in
     let below = rw c.in-Some.is at c.nearest.ensures.within in
     (omega (arith, height-small mode count here, below), area-kept mode count here c.look.auto.work)
 
@@ -63,7 +63,7 @@ pub waiting-preserved : goal.waiting-preserved
 waiting-preserved c =
     let here = c.down.invariant _ _ _ c.waiting.invariant in
     let past = walk-done _ _ here c.if-steps-eq0.false c.look.ensures c.look.auto.work _ c.in-Done.is in
-    let next = walk-next c.waiting.mode _ _ c.if-count-eq0.true past c.nearest.ensures c.in-Some.is in
+    let next = walk-next c.waiting.mode.0 _ _ c.if-count-eq0.true past c.nearest.ensures c.in-Some.is in
     rw c.node_at-node.ensures next
 
 pub shape_of-work-in-Fits : goal.shape_of-work-in-Fits
@@ -95,4 +95,4 @@ returns-in_default c =
     let step = c.look.ensures in
     let long = c.look.auto.work in
     let past = walk-done _ _ here c.if-steps-eq0.false step long _ c.in-Done.is in
-    walk_fitted here.start.deep (walk_same _ _ here c.if-steps-eq0.false step long) (walk_end c.waiting.mode _ c.if-count-eq0.true past c.nearest.ensures c.in_default.is)
+    walk_fitted here.start.deep (walk_same _ _ here c.if-steps-eq0.false step long) (walk_end c.waiting.mode.0 _ c.if-count-eq0.true past c.nearest.ensures c.in_default.is)

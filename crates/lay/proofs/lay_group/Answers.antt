@@ -7,4 +7,4 @@ use Rattle.lay.proofs.lay_group.Goals as goal
 pub returns-in-Ok : goal.returns-in-Ok
 returns-in-Ok c =
     let f = c.fitting.ensures in
-    group-goes c.args.due.indent.0 c.args.s c.in_default.not-Flat (stack_same _ _ _ (same_less _ 1024 _ _ c.requires.deep f.same)) f _ c.in-Ok.is
+    group-goes c.args.due.indent.0 c.args.s c.if-due-ne0.false (stack_same _ _ _ (same_less _ 1024 _ _ c.requires.deep f.same)) f _ c.in-Ok.is

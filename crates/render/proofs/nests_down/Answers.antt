@@ -5,27 +5,21 @@ use Rattle.render.proofs.nests_down.Goals as goal
 pub loop-left-init : goal.loop-left-init
 loop-left-init c = falls-start _ _ _ c.requires
 
-pub returns-then-table-at-ne-NEST : goal.returns-then-table-at-ne-NEST
-returns-then-table-at-ne-NEST c = c.loop-left.invariant.came
-
-pub overflow_add-table : goal.overflow_add-table
-overflow_add-table c = omega (arith, nest-below c.loop-left.invariant.held c.if-table-at-ne-NEST.false)
-
-pub returns-then-table-at : goal.returns-then-table-at
-returns-then-table-at c = c.loop-left.invariant.came
+pub next_in_row-requires-clause-child_below : goal.next_in_row-requires-clause-child_below
+next_in_row-requires-clause-child_below c = λ kind. nest-below c.loop-left.invariant.held kind
 
 pub nest_by-indent-requires : goal.nest_by-indent-requires
 nest_by-indent-requires c =
-    nest-small c.loop-left.invariant.held c.if-table-at-ne-NEST.false
-
-pub overflow_sub-due : goal.overflow_sub-due
-overflow_sub-due c =
-    omega (arith, nest-below c.loop-left.invariant.held c.if-table-at-ne-NEST.false)
+    nest-small c.loop-left.invariant.held (c.next_in_row.ensures.of_kind _ c.in-Some.is)
 
 pub loop-left-preserved : goal.loop-left-preserved
 loop-left-preserved c =
     let here = c.loop-left.invariant in
-    falls-next here.held c.if-table-at-ne-NEST.false _ c.if-table-at.false c.nest_by-indent.ensures here (omega arith)
+    let next = c.next_in_row.ensures in
+    falls-next here.held (next.of_kind _ c.in-Some.is) _ (next.beside _ c.in-Some.is) c.nest_by-indent.ensures _ (next.child _ c.in-Some.is) here (omega arith)
+
+pub returns-in_default : goal.returns-in_default
+returns-in_default c = c.loop-left.invariant.came
 
 pub returns : goal.returns
 returns c = c.loop-left.invariant.came

@@ -14,14 +14,14 @@ returns-in-Node c =
     let here = c.loop-s.invariant in
     rise-node here c.loop-s-test.true _ (sym c.tag_at.ensures ∙ c.in-Node.is) c.due_at.ensures
 
-pub shape_of-events-then-s : goal.shape_of-events-then-s
-shape_of-events-then-s c = c.loop-s.invariant.long
+pub shape_of-events-then-s-ne0 : goal.shape_of-events-then-s-ne0
+shape_of-events-then-s-ne0 c = c.loop-s.invariant.long
 
-pub returns-then-s : goal.returns-then-s
-returns-then-s c =
+pub returns-then-s-ne0 : goal.returns-then-s-ne0
+returns-then-s-ne0 c =
     let here = c.loop-s.invariant in
-    rise_give here c.loop-s-test.true _ _ _ (sym c.tag_at.ensures ∙ c.in-Trial.is) c.if-s.true
-    c.due_at-then-s.ensures
+    rise_give here c.loop-s-test.true _ _ _ (sym c.tag_at.ensures ∙ c.in-Trial.is) c.if-s-ne0.true
+    c.due_at-then-s-ne0.ensures
     c.saved_at-saved.ensures
     c.restored.ensures
 
@@ -34,10 +34,10 @@ returns-in_default c =
     let event = rw c.label_at.ensures at c.note_event.ensures in
     rise-full here c.loop-s-test.true (sym c.tag_at.ensures ∙ c.in-Closing.is) event c.note_event.auto.events _ c.node_at.ensures c.in_default.is
 
-pub loop-s-preserved-else-s : goal.loop-s-preserved-else-s
-loop-s-preserved-else-s c =
+pub loop-s-preserved-else-s-ne0 : goal.loop-s-preserved-else-s-ne0
+loop-s-preserved-else-s-ne0 c =
     let here = c.loop-s.invariant in
-    rise_keep here c.loop-s-test.true _ (sym c.tag_at.ensures ∙ c.in-Trial.is) c.if-s.false c.saved_at-saved.ensures
+    rise_keep here c.loop-s-test.true _ (sym c.tag_at.ensures ∙ c.in-Trial.is) (omega (arith, c.if-s-ne0.false)) c.saved_at-saved.ensures
 
 pub loop-s-preserved : goal.loop-s-preserved
 loop-s-preserved c =

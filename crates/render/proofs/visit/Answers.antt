@@ -64,13 +64,13 @@ pub returns-in-2 : goal.returns-in-2
 returns-in-2 c =
     visit-kept c.requires 2 c.in-2.is c.lay_group.ensures (λ limit. refl)
 
-pub returns-in-Broken : goal.returns-in-Broken
-returns-in-Broken c =
-    visit-broken c.requires _ c.in-3.is c.in-Broken.is c.child_of.ensures
+pub returns-then-due-eq0 : goal.returns-then-due-eq0
+returns-then-due-eq0 c =
+    visit-broken c.requires _ c.in-3.is c.if-due-eq0.true c.child_of.ensures
 
-pub returns-in-Flat : goal.returns-in-Flat
-returns-in-Flat c =
-    visit-flat c.requires _ c.in-3.is c.in-Flat.is c.child_of-in-Flat.ensures
+pub returns-else-due-eq0 : goal.returns-else-due-eq0
+returns-else-due-eq0 c =
+    visit-flat c.requires _ c.in-3.is c.if-due-eq0.false c.child_of-else-due-eq0.ensures
 
 pub returns-in-4 : goal.returns-in-4
 returns-in-4 c =

@@ -5,4 +5,4 @@ use Rattle.waiting.proofs.push_node.Goals as goal
 
 pub returns : goal.returns
 returns c =
-    pushed_node c.args.work.now c.args.depth c.requires.0 c.requires.1 c.args.due _ c.from-mode.ensures c.from-tag.ensures c.put_words.ensures
+    pushed_node c.args.work.now c.args.depth c.requires.0 c.requires.1 c.args.due _ c.from-tag.ensures c.put_words.ensures

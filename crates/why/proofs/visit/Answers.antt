@@ -6,11 +6,11 @@ use Rattle.why.proofs.visit.Goals as goal
 pub returns-then-table-at-ne-GROUP : goal.returns-then-table-at-ne-GROUP
 returns-then-table-at-ne-GROUP c = visit-other c.requires c.if-table-at-ne-GROUP.true
 
-pub returns-in-Flat : goal.returns-in-Flat
-returns-in-Flat c = visit-flat c.requires c.in-Flat.is
+pub returns-then-due-ne0 : goal.returns-then-due-ne0
+returns-then-due-ne0 c = visit-flat c.requires c.if-due-ne0.true
 
 pub reason-requires : goal.reason-requires
 reason-requires c = reason-asked c.requires c.fill.ensures c.fill.auto.work c.if-table-at-ne-GROUP.false
 
 pub returns : goal.returns
-returns c = visit-group c.requires c.fill.ensures c.reason.result c.if-table-at-ne-GROUP.false c.in_default.not-Flat c.reason.ensures
+returns c = visit-group c.requires c.fill.ensures c.reason.result c.if-table-at-ne-GROUP.false c.if-due-ne0.false c.reason.ensures
