@@ -34,8 +34,8 @@ pub enum Reason {
     HardlineAfter(NodeNo),
 }
 
-// What a fit test passes on its way through a node: no Text; Texts of so many columns together; or a Fail, a Hardline or Texts of more columns
-// than any width, at which it never comes through.
+// What a fit test passes on its way through a node: no Text; Texts of so many columns together; or a Fail, a Hardline or Texts
+// of more columns than any width, at which it never comes through.
 #[derive(Clone, Copy)]
 enum Passed {
     NoText,
