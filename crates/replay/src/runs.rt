@@ -75,7 +75,14 @@ fn run<W: Write>(
     let mut wide = [0u32; 65600];
     widen(out, &mut wide);
     let room = out.len().min(65600);
-    report(print, Report::from(answer), &wide[..room], events, work, name)
+    report(
+        print,
+        Report::from(answer),
+        &wide[..room],
+        events,
+        work,
+        name,
+    )
 }
 
 // Lays a table out in soiled buffers of these sizes.

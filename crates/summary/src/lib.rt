@@ -34,8 +34,8 @@ pub enum Reason {
     HardlineAfter(NodeNo),
 }
 
-// What a fit test passes on its way through a node: no Text; Texts of so many columns together; or a Fail, a Hardline or Texts of more columns
-// than any width, at which it never comes through.
+// What a fit test passes on its way through a node: no Text; Texts of so many columns together; or a Fail, a Hardline or Texts
+// of more columns than any width, at which it never comes through.
 #[derive(Clone, Copy)]
 enum Passed {
     NoText,
@@ -52,8 +52,10 @@ enum Step {
 
 // ---- the summaries
 
+// Inlined: as calls of their own the summaries of 1,000 joins take 8.6 million instructions in place of 6.8 (callgrind, 50 calls of why).
 impl Passed {
     // Its word: 0; one more than the columns; NEVER.
+    #[inline(always)]
     fn to_word(self) -> u32
         requires { Small (passed_of self) }
         ensures { result ≡ word_of (passed_of self) }
@@ -65,6 +67,7 @@ impl Passed {
         }
     }
 
+    #[inline(always)]
     fn from_word(word: u32) -> Passed
         ensures { passed_of result ≡ read_word word }
     {
@@ -78,6 +81,7 @@ impl Passed {
     }
 
     // One part after another.
+    #[inline(always)]
     fn join(self, next: Passed) -> Passed
         requires { Small (passed_of self) × Small (passed_of next) }
         ensures { passed_of result ≡ join (passed_of self) (passed_of next) }
@@ -92,6 +96,7 @@ impl Passed {
 }
 
 // A node's summary, broken or flat.
+#[inline(always)]
 fn summary_at(memo: &[u32], node: u32, flat: bool) -> Passed
     requires { (node < 1024) × (node * 2 + 2 ≤ length memo.now) }
     ensures { passed_of result ≡ read_word (get_or memo.now (place_of node flat) 0) }
@@ -101,6 +106,7 @@ fn summary_at(memo: &[u32], node: u32, flat: bool) -> Passed
 }
 
 // A node's words.
+#[inline(always)]
 fn words_at(table: &[u32], node: u32) -> Words
     requires { (node < 1024) × (node * 4 + 4 ≤ length table.now) }
     ensures { Reads table.now node result }
@@ -115,6 +121,7 @@ fn words_at(table: &[u32], node: u32) -> Words
 }
 
 // The summary of a node, by those of the nodes below it.
+#[inline(always)]
 fn node_summary(table: &[u32], memo: &[u32], node: u32, flat: bool) -> Passed
     requires { Below table.now memo.now node }
     ensures { Sums table.now node flat (passed_of result) }
