@@ -84,7 +84,6 @@ module _ {rows : ℕ} (ls : List (List ℕ)) where
 pub no_more : {r : Option Out} (s : List ℕ) (at : ℕ) → r ≡ None → Names r s at → out_notes (lines (drop at s)) ≡ []
 no_more s at e n = subst (λ (r : Option Out). Names r s at) e n
 
-
 -- ---- the block
 
 module _ {c : Counts} {t x : List ℕ} {r : Made} {t' : List ℕ} {a b m : NodeNo} {d e f : Doc} (i : Is c t x a d) (j : Is c t x b e) (k : Is c t x m f) where

@@ -93,7 +93,9 @@ fn lay_out<W: Write>(table: &[u32], text: &[u8], print: &mut W) -> Result<(), Re
     let mut out = [0u8; 65536];
     let mut events = [0u32; EVENTS];
     let mut work = [0u32; 16384];
-    let laid = layout::sheet(table, text, &mut out, &mut events, &mut work).map_err(Refusal::Layout)?;
+    let laid = layout::sheet(table, text, &mut out, &mut events, &mut work).map_err(
+        Refusal::Layout,
+    )?;
     let used = laid.used as usize;
     let words = (laid.events as usize * EVENT_WORDS).min(EVENTS);
     print_all(print, front(&out, used), &events[..words]).map_err(|_| Refusal::Unwritten)
