@@ -56,15 +56,13 @@ fn unions(
 {
     let mut c = c;
     let mut n = n;
-    let mut split = split;
-    while 0 < split {
+    for split in (1..=split).rev() {
         let (next, other) = alternative(
             c, table, text, block, shared, prefixes, suffixes, nests, split,
         )?;
         let (next, both) = next.union(table, text, n, other)?;
         c = next;
         n = both;
-        split -= 1;
     }
     Ok((c, n))
 }

@@ -95,9 +95,7 @@ pub fn wraps(
 {
     let mut c = c;
     let mut n = n;
-    let mut i = prefixes.len();
-    while 0 < i {
-        i -= 1;
+    for i in (0..prefixes.len()).rev() {
         let (next, m) = wrap(c, table, text, block, n, NodeNo(prefixes[i]), nests[i])?;
         c = next;
         n = m;
