@@ -4,4 +4,4 @@ use Rattle.block.proofs.unions.Given as goal
 
 abbrev pub invariant-loop-split : goal.invariant-loop-split
 invariant-loop-split l =
-    Left l.initial.c l.initial.table l.text l.block l.shared l.prefixes l.suffixes l.nests l.initial.n l.initial.split l.split l.c l.n l.table
+    Left l.initial.c l.initial.table l.text l.block l.shared l.affixes.prefixes.now l.affixes.suffixes.now l.affixes.nests.now l.initial.n l.initial.split l.split l.c l.n l.table
