@@ -9,8 +9,7 @@ use mathlib.Core.Path.{◌≡◌, refl, sym, ap, ◌∙◌}
 use mathlib.Core.Bool.{Bool, true, false, not, ◌&&◌, true≢false}
 use mathlib.Core.List.{List, [], ◌∷◌}
 use lib.ListN.{length}
-use lib.Dec.{eqb, leb}
-use borrow.Author.Tests.{ltb-true, eqb-true, eq-eqb, ne_eqb}
+use borrow.Author.Tests.{ltb-true, eq-eqb, ne_eqb}
 use Rattle.choice.specs.Pick.{pick}
 use Rattle.choice.proofs.Tests.{and-true}
 use Rattle.build.specs.declared.Counts.{Counts}
@@ -26,7 +25,7 @@ use Rattle.build.proofs.Room.{Passed, passed, fits_of}
 use Rattle.build.proofs.Stand.{made_granted, made_denied, made-same}
 use Rattle.build.proofs.Joins.{below_of}
 use Rattle.block.specs.declared.Block.{Block}
-use Rattle.block.specs.Block.{layouts, block_of, sizes_right, operands, least}
+use Rattle.block.specs.Block.{layouts, block_of, operands, least}
 use Rattle.block.specs.Run.{Ready}
 use Rattle.block.specs.Operands.{Askable}
 use Rattle.block.proofs.Chain.{no_room, ran-older}
@@ -134,10 +133,8 @@ module _ (c : Counts) (table text : List ℕ) (b : Block) (ps ss : List ℕ) (qs
         e ∙ sym (made_granted c table text present right true f (older (counted c table text) b.body.0) (block_none (counted c table text) b ps ss qs z) g)
 
     module _ (some : length ps ≡ 0 → ⊥) where
-      pub within_asks : sizes_right (length ps) (length ss) (length qs) ≡ true → Ready c table text × Askable c b ps ss qs × (c.nodes + 3 ≤ 1024)
-      within_asks sizes =
-          let x = and-true (leb (length ps) 8 && eqb (length ss) (length ps)) (eqb (length qs) (length ps)) sizes in
-          let y = and-true (leb (length ps) 8) (eqb (length ss) (length ps)) x.0 in
+      pub within_asks : Ready c table text × Askable c b ps ss × (c.nodes + 3 ≤ 1024)
+      within_asks =
           let there = all_there facts.operands in
           let n : least (length ps) ≡ 3 = rw (ne_eqb (length ps) 0 some) refl in
           let fit = rw n at facts.nodes-fit in
@@ -147,7 +144,6 @@ module _ (c : Counts) (table text : List ℕ) (b : Block) (ps ss : List ℕ) (qs
               bodied = record { body = there.0; amount = facts.amounts };
               before = there.1;
               behind = there.2;
-              even = record { some = omega arith; behind = eqb-true (length ss) (length ps) y.1; flags = eqb-true (length qs) (length ps) x.1 };
               some = omega (arith, some);
             },
             limit,

@@ -1,27 +1,25 @@
 -- Each layer of Head and Tail only adds nodes, and answers one that is there.
 --     of-below, stays-there, stay-below   present nodes, and that they stay
---     list-none .. nil_end                a list, and whether all of it is Nil
+--     list-none, list-some                a list: empty, or joined
 --     list-adds .. tail-adds              each layer
 -- Assumes nothing.
-use Prim.Native.Nat.{ℕ, ◌+◌, ◌≤◌, ◌<◌}
+use Prim.Native.Nat.{ℕ, ◌<◌}
 use native.Mathlib.Omega.{arith}
-use native.Mathlib.Numerals.{add-one}
-use mathlib.Core.Path.{◌≡◌, refl, ap, ◌∙◌}
-use mathlib.Core.Bool.{Bool, true, false}
+use mathlib.Core.Path.{◌≡◌, refl}
+use mathlib.Core.Bool.{Bool, true}
 use mathlib.Core.List.{List, [], ◌∷◌}
-use lib.ListN.{length, get_or, drop, drop_of_length-le}
-use lib.Seq.{drop-cons}
+use lib.ListN.{length}
 use lib.Dec.{ltb}
 use borrow.Author.Tests.{lt-ltb}
 use Rattle.build.specs.declared.Counts.{Counts}
 use Rattle.build.specs.Draft.{Draft, Built, older}
-use Rattle.build.specs.Parts.{is_nil, concat, append, group}
+use Rattle.build.specs.Parts.{concat, append, group}
 use Rattle.build.specs.Constructors.{has_all}
 use Rattle.build.proofs.Grow.{more-nodes}
 use Rattle.build.proofs.Joins.{Below, below_more}
 use Rattle.build.proofs.Only.{Adds, adds_then, older-adds, pick-adds, append-adds, group-adds, concat-adds}
 use Rattle.block.specs.declared.Shared.{Shared}
-use Rattle.block.specs.Affixes.{list, all_nil, guarded, head, tail}
+use Rattle.block.specs.Affixes.{list, guarded, head, tail}
 
 pub of-below : (c : Counts) (ns : List ℕ) → Below c.nodes ns → has_all c ns ≡ true
 unfolding has_all
@@ -35,7 +33,7 @@ stays-there a h = let g = more-nodes a.grown in omega arith
 pub stay-below : {s : Draft} {b : Built} → Adds s b → (ns : List ℕ) → Below s.counts.nodes ns → Below b.draft.counts.nodes ns
 stay-below a ns h = below_more ns (more-nodes a.grown) h
 
--- ---- a list, and whether all of it is Nil
+-- ---- a list
 
 pub list-none : (s : Draft) (none : ℕ) (ns : List ℕ) → length ns ≡ 0 → list s none ns ≡ older s none
 unfolding list
@@ -46,19 +44,6 @@ pub list-some : (s : Draft) (none : ℕ) (ns : List ℕ) → (length ns ≡ 0 �
 unfolding list
 list-some s none [] e = absurd (e refl)
 list-some s none (n ∷ ns) e = refl
-
-module _ (s : Draft) (ns : List ℕ) where
-  pub nil-next : (i : ℕ) → i < length ns → is_nil s (get_or ns i 0) ≡ true → all_nil s (drop i ns) ≡ all_nil s (drop (i + 1) ns)
-  unfolding all_nil
-  nil-next i h e = ap (all_nil s) (drop-cons ns i 0 h) ∙ rw (e, add-one) refl
-
-  pub nil_not : (i : ℕ) → i < length ns → is_nil s (get_or ns i 0) ≡ false → all_nil s (drop i ns) ≡ false
-  unfolding all_nil
-  nil_not i h e = ap (all_nil s) (drop-cons ns i 0 h) ∙ rw e refl
-
-  pub nil_end : (i : ℕ) → length ns ≤ i → all_nil s (drop i ns) ≡ true
-  unfolding all_nil
-  nil_end i h = ap (all_nil s) (drop_of_length-le ns h)
 
 -- ---- one layer
 

@@ -28,7 +28,7 @@ use Rattle.block.specs.declared.Block.{Block}
 use Rattle.block.specs.declared.Shared.{Shared}
 use Rattle.block.specs.Block.{wrap, wraps, alternative, unions}
 use Rattle.block.specs.Run.{Ready, Ran}
-use Rattle.block.specs.Operands.{Bodied, AllPresent, Even}
+use Rattle.block.specs.Operands.{Bodied, AllPresent}
 use Rattle.block.proofs.Heads.{of-below, stays-there}
 use Rattle.block.proofs.Layers.{below-drop, wrap_adds, wraps-adds, On, on_still, alternative-adds, unions-adds}
 use Rattle.block.proofs.Chain.{At, begin, ready, later, start-node, start-list, go, go-made, at, at-adds, stop, counted-node, shares_later, two}
@@ -207,8 +207,8 @@ module _ {c : Counts} {table text : List ℕ} (r : Ready c table text) {b : Bloc
     abbrev joined : Built
     joined = union other.draft n₁.0 other.node
 
-    pub left_asks : Even all ps ss qs → Ready c₁ table₁ text × AllPresent c₁ b sh ps ss × Even split ps ss qs
-    left_asks e = (ready left.place, present_later left.place k, record { some = still.inside; behind = e.behind; flags = e.flags })
+    pub left_asks : Ready c₁ table₁ text × AllPresent c₁ b sh ps ss × (split ≤ length ps)
+    left_asks = (ready left.place, present_later left.place k, still.inside)
 
     on : On s₁.counts.nodes b sh ps ss
     on = on-present (ready left.place) (present_later left.place k)

@@ -45,7 +45,7 @@ over_copied table own words t used n e h l =
     ap (λ (x : List ℕ). take used table ++ x ++ drop (used + length x) table) words_are
     ∙ ap₂ (λ (x : List ℕ) (y : ℕ). x ++ drop y table) (sym e) (sym size)
 
-module _ {c : Counts} {table text : List ℕ} (r : Ready c table text) {b : Block} {ps ss : List ℕ} {qs : List Bool} (k : Askable c b ps ss qs)
+module _ {c : Counts} {table text : List ℕ} (r : Ready c table text) {b : Block} {ps ss : List ℕ} (k : Askable c b ps ss) (qs : List Bool)
     (few : c.nodes + 3 ≤ 1024) {own : List ℕ} (copied : own ≡ put (replicate 4096 0) 0 (take (c.nodes * 4) (drop 0 table))) where
   abbrev others : ℕ
   others = length ps - 1

@@ -1,5 +1,5 @@
 -- An alternative, part by part, as the proof of the code asks for them: head, core, wraps, tail, join.
---     split-inside, front_length     so many affixes before, in each of the three lists
+--     front_length                   so many affixes before
 --     AtFront .. AtBack              where the code stands once Head, Core, the wraps and Tail are built
 --     split_asks₁ .. split_last      what each part asks; refused, or built; the join
 -- Assumes nothing.
@@ -25,7 +25,7 @@ use Rattle.block.specs.declared.Shared.{Shared}
 use Rattle.block.specs.Affixes.{bare, head, tail}
 use Rattle.block.specs.Block.{core, wraps, alternative}
 use Rattle.block.specs.Run.{Ready, Shares, Ran}
-use Rattle.block.specs.Operands.{Bodied, AllPresent, Even}
+use Rattle.block.specs.Operands.{Bodied, AllPresent}
 use Rattle.block.proofs.Heads.{of-below}
 use Rattle.block.proofs.Layers.{below-take, below-drop, On, on_still, front-adds, middle-adds, wrapped-adds, back-adds, front-there, join-adds}
 use Rattle.block.proofs.Chain.{Reached, reached, ready, go, go-made, stop, counted-node, counted-list, shares_later, two}
@@ -40,9 +40,6 @@ rest k xs = take (length xs - k) (drop k xs)
 
 rest_all : {A : Type 0} (k : ℕ) (xs : List A) → rest k xs ≡ drop k xs
 rest_all k xs = take_all (length xs - k) (drop k xs) (rw (length-drop k xs) (omega arith))
-
-pub split-inside : {split : ℕ} {ps ss : List ℕ} {qs : List Bool} → Even split ps ss qs → (split ≤ length ss) × (split ≤ length qs)
-split-inside e = let some = e.some in let behind = e.behind in let flags = e.flags in (omega arith, omega arith)
 
 pub front_length : (split : ℕ) (xs : List ℕ) → split ≤ length xs → split ≡ length (take split xs)
 front_length split xs h = sym (length-take-le split xs h)
@@ -148,14 +145,14 @@ module _ {c : Counts} {table text : List ℕ} (r : Ready c table text) {b : Bloc
   -- ---- the wraps
 
   module _ (f : AtMiddle) where
-    pub split_asks₃ : Even split ps ss qs
+    pub split_asks₃ : length qs ≡ length ps
         → Ready f.counts f.left text × Bodied f.counts b × (f.node.0 < f.counts.nodes) × (has_all f.counts (rest split ps) ≡ true) × (length (rest split qs) ≡ length (rest split ps))
     split_asks₃ e = (
       ready f.place,
       bodied_later f.place k.bodied,
       rw f.is (counted-node f.place d₂.present),
       rw (rest_all split ps) (counted-list f.place (drop split ps) (below-drop _ split ps (on_still to_middle on).before)),
-      rw (rest_all split qs, rest_all split ps, length-drop split qs, length-drop split ps, e.flags) refl,
+      rw (rest_all split qs, rest_all split ps, length-drop split qs, length-drop split ps, e) refl,
     )
 
     module _ {m : Made} {table' : List ℕ}

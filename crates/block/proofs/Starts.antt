@@ -24,7 +24,7 @@ use Rattle.block.specs.declared.Block.{Block}
 use Rattle.block.specs.declared.Shared.{Shared}
 use Rattle.block.specs.Block.{alternative, unions, layouts}
 use Rattle.block.specs.Run.{Ready, Ran}
-use Rattle.block.specs.Operands.{AllPresent, Even, Askable}
+use Rattle.block.specs.Operands.{AllPresent, Askable}
 use Rattle.block.proofs.Heads.{of-below, stays-there, stay-below}
 use Rattle.block.proofs.Layers.{On, on_still, alternative-adds, unions-adds}
 use Rattle.block.proofs.Chain.{At, begin, ready, later, start-node, start-list, go, go-made, at, stop, counted-node, two}
@@ -85,7 +85,7 @@ module _ (s : Draft) where
 
 -- ---- part by part
 
-module _ {c : Counts} {table text : List ℕ} (r : Ready c table text) {b : Block} {ps ss : List ℕ} {qs : List Bool} (k : Askable c b ps ss qs) where
+module _ {c : Counts} {table text : List ℕ} (r : Ready c table text) {b : Block} {ps ss : List ℕ} (k : Askable c b ps ss) (qs : List Bool) where
   abbrev s₀ : Draft
   s₀ = counted c table text
 
@@ -158,8 +158,8 @@ module _ {c : Counts} {table text : List ℕ} (r : Ready c table text) {b : Bloc
                 behind = of-below c₃ ss (below_more ss l (below_of c ss k.behind));
               })
 
-          pub start_asks₄ : Ready c₃ table₃ text × AllPresent c₃ b (record { none = n₁; guard = n₃ }) ps ss × Even (length ps) ps ss qs
-          start_asks₄ = (ready t₃.0, all-present, k.even)
+          pub start_asks₄ : Ready c₃ table₃ text × AllPresent c₃ b (record { none = n₁; guard = n₃ }) ps ss × (length ps ≤ length ps)
+          start_asks₄ = (ready t₃.0, all-present, omega arith)
 
           module _ {m₄ : Made} {table₄ : List ℕ}
               (ran₄ : Ran c₃ table₃ text (alternative (counted c₃ table₃ text) b (record { none = n₁; guard = n₃ }) ps ss qs (length ps)) m₄ table₄) where
@@ -175,7 +175,7 @@ module _ {c : Counts} {table text : List ℕ} (r : Ready c table text) {b : Bloc
               t₄ : At c table text (b₄ s₀ b ps ss qs others the-body the-before the-behind).draft c₄ table₄ × (n₄.0 ≡ (b₄ s₀ b ps ss qs others the-body the-before the-behind).node)
               t₄ = at r (adds_then (d₁₂₃ s₀) a₄) so₄ x₄
 
-              pub start_asks₅ : Ready c₄ table₄ text × AllPresent c₄ b (record { none = n₁; guard = n₃ }) ps ss × Even (length ps - 1) ps ss qs × (n₄.0 < c₄.nodes)
+              pub start_asks₅ : Ready c₄ table₄ text × AllPresent c₄ b (record { none = n₁; guard = n₃ }) ps ss × (length ps - 1 ≤ length ps) × (n₄.0 < c₄.nodes)
               start_asks₅ =
                   let l = later t₄.0 in (
                     ready t₄.0,
@@ -187,7 +187,7 @@ module _ {c : Counts} {table text : List ℕ} (r : Ready c table text) {b : Bloc
                           before = of-below c₄ ps (below_more ps l (below_of c ps k.before));
                           behind = of-below c₄ ss (below_more ss l (below_of c ss k.behind));
                         }),
-                    record { some = omega arith; behind = k.even.behind; flags = k.even.flags },
+                    omega arith,
                     rw t₄.1 (counted-node t₄.0 a₄.present),
                   )
 

@@ -1,5 +1,5 @@
 -- What a run of parts (Run) asks of a block and its affixes: that all that it names is there.
-use Rattle.std.specs.Prelude.{ℕ, ◌≤◌, ◌<◌, ◌≡◌, Bool, true, List, length}
+use Rattle.std.specs.Prelude.{ℕ, ◌<◌, ◌≡◌, true, List, length}
 use Rattle.build.specs.declared.Counts.{Counts}
 use Rattle.build.specs.Constructors.{has_all, nest_right}
 use Rattle.block.specs.declared.Shared.{Shared}
@@ -18,16 +18,9 @@ pub record AllPresent (c : Counts) (b : Block) (sh : Shared) (prefixes suffixes 
   pub before : has_all c prefixes ≡ true
   pub behind : has_all c suffixes ≡ true
 
--- so many affixes before, of as many as there are
-pub record Even (split : ℕ) (prefixes suffixes : List ℕ) (nests : List Bool) : Type 0 where
-  pub some : split ≤ length prefixes
-  pub behind : length suffixes ≡ length prefixes
-  pub flags : length nests ≡ length prefixes
-
 -- a block with affixes, all that it names there and its amount right
-pub record Askable (c : Counts) (b : Block) (prefixes suffixes : List ℕ) (nests : List Bool) : Type 0 where
+pub record Askable (c : Counts) (b : Block) (prefixes suffixes : List ℕ) : Type 0 where
   pub bodied : Bodied c b
   pub before : has_all c prefixes ≡ true
   pub behind : has_all c suffixes ≡ true
-  pub even : Even (length prefixes) prefixes suffixes nests
   pub some : 0 < length prefixes

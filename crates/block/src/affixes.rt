@@ -27,15 +27,7 @@ pub fn list(c: Counts, table: &mut [u32], text: &[u8], none: NodeNo, nodes: &[u3
 pub fn all_nil(c: Counts, table: &[u32], text: &[u8], nodes: &[u32]) -> bool
     ensures { result ≡ all_nil (counted c table.now text.now) nodes.now }
 {
-    let mut i = 0;
-    while i < nodes.len() {
-        if c.is_nil(table, NodeNo(nodes[i])) {
-            i += 1;
-            continue;
-        }
-        return false;
-    }
-    true
+    nodes.iter().all(|&n| c.is_nil(table, NodeNo(n)))
 }
 
 // Whether there is more than one before, and every prefix is a Nil.

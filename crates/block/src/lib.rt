@@ -1,6 +1,6 @@
 // The block layouts, over what the constructors promise. Each part is asked of them in document 01's order; parts.rt has an
-// alternative and its Core, affixes.rt Head and Tail. `format` has no `requires`, and says its whole outcome by one definition, so one
-// outcome is possible.
+// alternative and its Core, affixes.rt Head and Tail, lists.rt the affixes as they are handed on. `format` has no `requires`, and says
+// its whole outcome by one definition, so one outcome is possible.
 
 #![tactic(auto)]
 
@@ -9,13 +9,15 @@ ghost use Rattle.build.specs.Outcome.{outcome, made};
 ghost use Rattle.build.specs.Constructors.{nest_right};
 ghost use Rattle.block.specs.Block.{alternative, unions, layouts, block_of, sizes_right, operands, least, format_made};
 ghost use Rattle.block.specs.Run.{Ready, Runs};
-ghost use Rattle.block.specs.Operands.{AllPresent, Even, Askable};
+ghost use Rattle.block.specs.Operands.{AllPresent, Askable};
 
 use build::{Asks, Counts, Made, Why};
+use lists::Affixes;
 use parts::alternative;
 use table::{Indent, NodeNo};
 
 mod affixes;
+mod lists;
 mod parts;
 
 // What stands in a block, and by how much it is nested. Way 0 adds, 1 subtracts.
@@ -40,96 +42,60 @@ fn unions(
     text: &[u8],
     block: Block,
     shared: Shared,
-    prefixes: &[u32],
-    suffixes: &[u32],
-    nests: &[bool],
+    affixes: Affixes,
     n: NodeNo,
     split: usize,
 ) -> Made
     requires { Ready c table.old text.now
-        × AllPresent c block shared prefixes.now suffixes.now
-        × Even split prefixes.now suffixes.now nests.now
+        × AllPresent c block shared affixes.prefixes.now affixes.suffixes.now
+        × (split ≤ length affixes.prefixes.now)
         × (n.0 < c.nodes) }
     ensures { Runs c table.old text.now
-        (λ s. unions s block shared prefixes.now suffixes.now nests.now n.0 split)
+        (λ s. unions s block shared affixes.entry.prefixes.now affixes.entry.suffixes.now affixes.entry.nests.now n.0 split)
         result table.new }
 {
     let mut c = c;
     let mut n = n;
-    let mut split = split;
-    while 0 < split {
-        let (next, other) = alternative(
-            c, table, text, block, shared, prefixes, suffixes, nests, split,
-        )?;
+    for split in (1..=split).rev() {
+        let (next, other) = alternative(c, table, text, block, shared, affixes, split)?;
         let (next, both) = next.union(table, text, n, other)?;
         c = next;
         n = both;
-        split -= 1;
     }
     Ok((c, n))
 }
 
 // One Nil, one Fail and the guard; then all affixes before, and down to one.
-fn layouts(
-    c: Counts,
-    table: &mut [u32],
-    text: &[u8],
-    block: Block,
-    prefixes: &[u32],
-    suffixes: &[u32],
-    nests: &[bool],
-) -> Made
-    requires { Ready c table.old text.now × Askable c block prefixes.now suffixes.now nests.now }
+fn layouts(c: Counts, table: &mut [u32], text: &[u8], block: Block, affixes: Affixes) -> Made
+    requires { Ready c table.old text.now × Askable c block affixes.prefixes.now affixes.suffixes.now }
     ensures { Runs c table.old text.now
-        (λ s. layouts s block prefixes.now suffixes.now nests.now (length prefixes.now - 1))
+        (λ s. layouts s block affixes.entry.prefixes.now affixes.entry.suffixes.now affixes.entry.nests.now
+        (length affixes.entry.prefixes.now - 1))
         result table.new }
 {
-    let all = prefixes.len();
+    let all = affixes.prefixes.len();
     let (c, none) = c.nil(table, text)?;
     let (c, failing) = c.fail(table, text)?;
     let (c, guard) = c.flat_alt(table, text, failing, none)?;
-    let shared = Shared {
-        none: none,
-        guard: guard,
-    };
-    let (c, n) = alternative(
-        c, table, text, block, shared, prefixes, suffixes, nests, all,
-    )?;
-    unions(
-        c,
-        table,
-        text,
-        block,
-        shared,
-        prefixes,
-        suffixes,
-        nests,
-        n,
-        all - 1,
-    )
+    let shared = Shared { none, guard };
+    let (c, n) = alternative(c, table, text, block, shared, affixes, all)?;
+    unions(c, table, text, block, shared, affixes, n, all - 1)
 }
 
 // All layouts, built on a table of their own and laid over the lent one if they fit, so that a refusal leaves it as it was.
-fn placed(
-    c: Counts,
-    table: &mut [u32],
-    text: &[u8],
-    block: Block,
-    prefixes: &[u32],
-    suffixes: &[u32],
-    nests: &[bool],
-) -> Made
+fn placed(c: Counts, table: &mut [u32], text: &[u8], block: Block, affixes: Affixes) -> Made
     requires { Ready c table.old text.now
-        × Askable c block prefixes.now suffixes.now nests.now
+        × Askable c block affixes.prefixes.now affixes.suffixes.now
         × (c.nodes + 3 ≤ 1024) }
     ensures { outcome result table.new text.now
         ≡ made c table.old text.now true true true
-        (λ s. layouts s block prefixes.now suffixes.now nests.now (length prefixes.now - 1)) }
+        (λ s. layouts s block affixes.entry.prefixes.now affixes.entry.suffixes.now affixes.entry.nests.now
+        (length affixes.entry.prefixes.now - 1)) }
 {
     let mut own = [0u32; 4096];
     let used = c.nodes as usize * 4;
     buffer::copy(table, 0, used, &mut own, 0);
-    let (d, n) = layouts(c, &mut own, text, block, prefixes, suffixes, nests)?;
+    let (d, n) = layouts(c, &mut own, text, block, affixes)?;
     let nodes = d.nodes as usize;
     if table.len() / 4 < nodes {
         return Err(Why::Nodes);
@@ -142,19 +108,13 @@ fn placed(
 fn sizes_right(prefixes: usize, suffixes: usize, nests: usize) -> bool
     ensures { result ≡ sizes_right prefixes suffixes nests }
 {
-    (prefixes <= 8) & (suffixes == prefixes) & (nests == prefixes)
+    prefixes <= 8 && suffixes == prefixes && nests == prefixes
 }
 
-fn operands(c: Counts, block: Block, prefixes: &[u32], suffixes: &[u32]) -> bool
-    ensures { result ≡ operands c block prefixes.now suffixes.now }
+fn operands(c: Counts, block: Block, affixes: Affixes) -> bool
+    ensures { result ≡ operands c block affixes.entry.prefixes.now affixes.entry.suffixes.now }
 {
-    let body = block.body;
-    if c.has(body) {
-        if c.has_all(prefixes) {
-            return c.has_all(suffixes);
-        }
-    }
-    false
+    c.has(block.body) && (c.has_all(affixes.prefixes) && c.has_all(affixes.suffixes))
 }
 
 // What is built at least: nothing without affixes, else the Nil, the Fail and the guard.
@@ -165,28 +125,19 @@ fn least(affixes: usize) -> usize
 }
 
 // What is asked for the whole is asked first: with the Nil, the Fail and the guard, if there are affixes.
-fn within(
-    c: Counts,
-    table: &mut [u32],
-    text: &[u8],
-    block: Block,
-    prefixes: &[u32],
-    suffixes: &[u32],
-    nests: &[bool],
-) -> Made
-    requires { sizes_right (length prefixes.now) (length suffixes.now) (length nests.now) ≡ true }
+fn within(c: Counts, table: &mut [u32], text: &[u8], block: Block, affixes: Affixes) -> Made
     ensures { outcome result table.new text.now
         ≡ made c table.old text.now
-        (operands c block prefixes.now suffixes.now)
+        (operands c block affixes.entry.prefixes.now affixes.entry.suffixes.now)
         (nest_right block.amount.0 block.way)
         true
-        (λ s. block_of s block prefixes.now suffixes.now nests.now) }
+        (λ s. block_of s block affixes.entry.prefixes.now affixes.entry.suffixes.now affixes.entry.nests.now) }
 {
     let body = block.body;
     let amount = block.amount;
-    let present = operands(c, block, prefixes, suffixes);
+    let present = operands(c, block, affixes);
     let right = build::nest_right(amount, block.way);
-    let few = least(prefixes.len());
+    let few = least(affixes.prefixes.len());
     c.ask(
         table.len(),
         text.len(),
@@ -198,10 +149,10 @@ fn within(
             bytes: 0,
         },
     )?;
-    if prefixes.is_empty() {
+    if affixes.prefixes.is_empty() {
         return Ok((c, body));
     }
-    placed(c, table, text, block, prefixes, suffixes, nests)
+    placed(c, table, text, block, affixes)
 }
 
 impl Block {
@@ -221,7 +172,12 @@ impl Block {
             self prefixes.now suffixes.now nests.now }
     {
         if sizes_right(prefixes.len(), suffixes.len(), nests.len()) {
-            return within(c, table, text, self, prefixes, suffixes, nests);
+            let affixes = Affixes {
+                prefixes,
+                suffixes,
+                nests,
+            };
+            return within(c, table, text, self, affixes);
         }
         Err(Why::Sizes)
     }

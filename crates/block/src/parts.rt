@@ -1,11 +1,12 @@
 // An alternative and its Core, each a run on a table of its own: all of it, or a refusal for want of nodes (specs/Run.antt).
-ghost use Rattle.std.specs.Prelude.{◌≡◌, true, ◌<◌, length};
+ghost use Rattle.std.specs.Prelude.{◌≡◌, true, ◌<◌, ◌≤◌, length};
 ghost use Rattle.build.specs.Constructors.{has_all};
 ghost use Rattle.block.specs.Block.{nested, core, wrap, wraps, alternative};
 ghost use Rattle.block.specs.Run.{Ready, Shares, Runs};
-ghost use Rattle.block.specs.Operands.{Bodied, AllPresent, Even};
+ghost use Rattle.block.specs.Operands.{Bodied, AllPresent};
 
 use crate::affixes::{bare, guarded, head, list, tail};
+use crate::lists::Affixes;
 use crate::{Block, Shared};
 use build::{Counts, Made};
 use table::NodeNo;
@@ -95,9 +96,7 @@ pub fn wraps(
 {
     let mut c = c;
     let mut n = n;
-    let mut i = prefixes.len();
-    while 0 < i {
-        i -= 1;
+    for i in (0..prefixes.len()).rev() {
         let (next, m) = wrap(c, table, text, block, n, NodeNo(prefixes[i]), nests[i])?;
         c = next;
         n = m;
@@ -112,30 +111,36 @@ pub fn alternative(
     text: &[u8],
     block: Block,
     shared: Shared,
-    prefixes: &[u32],
-    suffixes: &[u32],
-    nests: &[bool],
+    affixes: Affixes,
     split: usize,
 ) -> Made
     requires { Ready c table.old text.now
-        × AllPresent c block shared prefixes.now suffixes.now
-        × Even split prefixes.now suffixes.now nests.now }
+        × AllPresent c block shared affixes.prefixes.now affixes.suffixes.now
+        × (split ≤ length affixes.prefixes.now) }
     ensures { Runs c table.old text.now
-        (λ s. alternative s block shared prefixes.now suffixes.now nests.now split)
+        (λ s. alternative s block shared affixes.entry.prefixes.now affixes.entry.suffixes.now affixes.entry.nests.now split)
         result table.new }
 {
-    let (c, front) = head(c, table, text, shared, &prefixes[..split])?;
-    let asked = bare(c, table, text, &prefixes[..split]);
-    let (c, middle) = core(c, table, text, block, shared, asked, &suffixes[split..])?;
+    let (c, front) = head(c, table, text, shared, &affixes.prefixes[..split])?;
+    let asked = bare(c, table, text, &affixes.prefixes[..split]);
+    let (c, middle) = core(
+        c,
+        table,
+        text,
+        block,
+        shared,
+        asked,
+        &affixes.suffixes[split..],
+    )?;
     let (c, wrapped) = wraps(
         c,
         table,
         text,
         block,
         middle,
-        &prefixes[split..],
-        &nests[split..],
+        &affixes.prefixes[split..],
+        &affixes.nests[split..],
     )?;
-    let (c, back) = tail(c, table, text, shared, wrapped, &suffixes[..split])?;
+    let (c, back) = tail(c, table, text, shared, wrapped, &affixes.suffixes[..split])?;
     c.append(table, text, front, back)
 }

@@ -4,7 +4,4 @@ use Rattle.block.proofs.unions.Given as goal
 
 abbrev pub invariant-loop-split : goal.invariant-loop-split
 invariant-loop-split l =
-    Left l.initial.c l.initial.table l.text l.block l.shared l.prefixes l.suffixes l.nests l.initial.n l.initial.split l.split l.c l.n l.table
-
-abbrev pub decreases-loop-split : goal.decreases-loop-split
-decreases-loop-split l = l.split
+    Left l.initial.c l.initial.table l.text l.block l.shared l.affixes.prefixes.now l.affixes.suffixes.now l.affixes.nests.now l.initial.n l.initial.split l.split l.c l.n l.table

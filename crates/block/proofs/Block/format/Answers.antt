@@ -1,11 +1,7 @@
 -- `format`: at most 8 affixes, each with a prefix, a suffix and a flag.
-use mathlib.Core.Path.{refl, sym, ◌∙◌}
+use mathlib.Core.Path.{refl}
 use Rattle.block.specs.Block.{format_made}
 use Rattle.block.proofs.Block.format.Goals as goal
-
-pub within-requires : goal.within-requires
-within-requires c =
-    sym c.sizes_right.ensures ∙ c.if-sizes_right.true
 
 pub returns-then-sizes_right : goal.returns-then-sizes_right
 unfolding format_made

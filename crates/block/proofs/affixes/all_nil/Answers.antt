@@ -1,33 +1,16 @@
-use mathlib.Core.Path.{refl, sym, ◌∙◌}
-use native.Mathlib.Omega.{arith}
+-- `all_nil`: every one is a Nil.
+use Rattle.std.proofs.Common.{rules, refl, Decides, All, ◌≡◌}
+use Rattle.std.proofs.lemmas.Bool.Decides.{same_from_decides, Decides-by_and, Decides-eqb}
 use Rattle.build.specs.Draft.{counted}
-use Rattle.block.proofs.Heads.{nil-next, nil_not, nil_end}
+use Rattle.table.specs.Node.{word}
+use Rattle.build.specs.Parts.{is_nil}
+use Rattle.block.specs.Affixes.{all_nil}
 use Rattle.block.proofs.affixes.all_nil.Goals as goal
 
-pub loop-i-init : goal.loop-i-init
-loop-i-init c = (omega arith, refl)
-
-pub loop-i-preserved : goal.loop-i-preserved
-unfolding counted
-loop-i-preserved c =
-    let args = c.args in (
-      omega arith,
-      c.loop-i.invariant.1
-          ∙ nil-next (counted args.c args.table.now args.text.now) args.nodes.now c.loop-i.i c.loop-i-test.true
-          (sym c.is_nil.ensures ∙ c.if-is_nil.true),
-    )
-
-pub returns-in-loop-i : goal.returns-in-loop-i
-unfolding counted
-returns-in-loop-i c =
-    let args = c.args in
-    sym
-    (c.loop-i.invariant.1
-    ∙ nil_not (counted args.c args.table.now args.text.now) args.nodes.now c.loop-i.i c.loop-i-test.true
-    (sym c.is_nil.ensures ∙ c.if-is_nil.false))
-
 pub returns : goal.returns
+unfolding all_nil counted
 returns c =
-    let args = c.args in
-    sym
-    (c.loop-i.invariant.1 ∙ nil_end (counted args.c args.table.now args.text.now) args.nodes.now c.loop-i.i c.loop-i-test.false)
+    let s = counted c.args.c c.args.table.now c.args.text.now in
+    let each : Decides c.all.result (All (λ n. word s.table n 0 ≡ 0) c.args.nodes.now) = search rules in
+    same_from_decides _ _ each
+    (Decides-by_and (is_nil s) (λ n. word s.table n 0 ≡ 0) (all_nil s) (λ n. Decides-eqb (word s.table n 0) 0) refl (λ _ _. refl) c.args.nodes.now)
