@@ -128,7 +128,7 @@ fn walked(
     let mut at = depth;
     let mut col = Column(column.0);
     let mut steps = left;
-    let goes = 'waiting: loop {
+    let fits: bool = 'waiting: loop {
         'down: loop {
             if steps == 0 {
                 return Err(node);
@@ -147,21 +147,19 @@ fn walked(
                     count -= 1;
                     node = waiting::fit_node(work, count);
                 }
-                Step::Fits => break 'waiting Mode(1),
-                Step::Wide => break 'waiting Mode(0),
+                Step::Fits => break 'waiting true,
+                Step::Wide => break 'waiting false,
             }
         }
         let Some(next) = waiting::nearest(work, at, Tag::Node) else {
-            break 'waiting Mode(1);
+            break 'waiting true;
         };
         at = next;
         node = waiting::node_at(work, at);
         mode = Mode(0);
     };
-    Ok(Fit {
-        mode: goes,
-        left: steps,
-    })
+    let mode = if fits { Mode(1) } else { Mode(0) };
+    Ok(Fit { mode, left: steps })
 }
 
 // Whether a group's child fits, read flat, with what waits after it: then it goes flat, else broken. Or the node that is due when no step is left.

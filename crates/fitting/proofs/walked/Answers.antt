@@ -1,6 +1,8 @@
-use mathlib.Core.Path.{◌∙◌}
+use mathlib.Core.Path.{sym, ◌∙◌}
+use mathlib.Core.Bool.{true≢false, false≢true}
 use native.Mathlib.Omega.{arith}
 use Rattle.fitting.proofs.Walk.{walk_start, count_small, area-kept, height-small, visit_asks, walk-due, walk_down, walk-done, walk_same, walk_yes, walk_no, walk_pop, walk_end, walk-next, walk_fitted}
+use Rattle.fitting.proofs.walked.Goals.{in-Fits, in-Wide, in-Done+then-count-eq0+in_default}
 use Rattle.fitting.proofs.walked.Goals as goal
 
 pub waiting-init : goal.waiting-init
@@ -66,33 +68,28 @@ waiting-preserved c =
     let next = walk-next c.waiting.mode.0 _ _ c.if-count-eq0.true past c.nearest.ensures c.in-Some.is in
     rw c.node_at-node.ensures next
 
-pub shape_of-work-in-Fits : goal.shape_of-work-in-Fits
-shape_of-work-in-Fits c = c.look.auto.work ∙ (c.down.invariant _ _ _ c.waiting.invariant).long
-
-pub returns-in-Fits : goal.returns-in-Fits
-returns-in-Fits c =
+pub returns-then-fits : goal.returns-then-fits
+returns-then-fits c =
     let here = c.down.invariant _ _ _ c.waiting.invariant in
     let step = c.look.ensures in
     let long = c.look.auto.work in
-    walk_fitted here.start.deep (walk_same _ _ here c.if-steps-eq0.false step long) (walk_yes _ _ here c.if-steps-eq0.false step long c.in-Fits.is)
+    walk_fitted here.start.deep (walk_same _ _ here c.if-steps-eq0.false step long)
+    (elim c.match-look.branch [
+      | in-Fits w ↦ walk_yes _ _ here c.if-steps-eq0.false step long w.in-Fits.is
+      | in-Wide w ↦ absurd (false≢true (sym w.fits-is ∙ c.if-fits.true))
+      | in-Done+then-count-eq0+in_default w ↦
+          let past = walk-done _ _ here c.if-steps-eq0.false step long _ w.in-Done.is in
+          walk_end c.waiting.mode.0 _ w.if-count-eq0.true past w.nearest.ensures w.in_default.is
+    ])
 
-pub shape_of-work-in-Wide : goal.shape_of-work-in-Wide
-shape_of-work-in-Wide c = c.look.auto.work ∙ (c.down.invariant _ _ _ c.waiting.invariant).long
-
-pub returns-in-Wide : goal.returns-in-Wide
-returns-in-Wide c =
+pub returns-else-fits : goal.returns-else-fits
+returns-else-fits c =
     let here = c.down.invariant _ _ _ c.waiting.invariant in
     let step = c.look.ensures in
     let long = c.look.auto.work in
-    walk_fitted here.start.deep (walk_same _ _ here c.if-steps-eq0.false step long) (walk_no _ _ here c.if-steps-eq0.false step long c.in-Wide.is)
-
-pub shape_of-work-in_default : goal.shape_of-work-in_default
-shape_of-work-in_default c = c.look.auto.work ∙ (c.down.invariant _ _ _ c.waiting.invariant).long
-
-pub returns-in_default : goal.returns-in_default
-returns-in_default c =
-    let here = c.down.invariant _ _ _ c.waiting.invariant in
-    let step = c.look.ensures in
-    let long = c.look.auto.work in
-    let past = walk-done _ _ here c.if-steps-eq0.false step long _ c.in-Done.is in
-    walk_fitted here.start.deep (walk_same _ _ here c.if-steps-eq0.false step long) (walk_end c.waiting.mode.0 _ c.if-count-eq0.true past c.nearest.ensures c.in_default.is)
+    walk_fitted here.start.deep (walk_same _ _ here c.if-steps-eq0.false step long)
+    (elim c.match-look.branch [
+      | in-Fits w ↦ absurd (true≢false (sym w.fits-is ∙ c.if-fits.false))
+      | in-Wide w ↦ walk_no _ _ here c.if-steps-eq0.false step long w.in-Wide.is
+      | in-Done+then-count-eq0+in_default w ↦ absurd (true≢false (sym w.fits-is ∙ c.if-fits.false))
+    ])
