@@ -223,9 +223,7 @@ pub fn nearest(work: &[u32], depth: usize, tag: Tag) -> Option<usize>
     requires { (depth ≤ 1024) × (area_words ≤ length work.now) }
     ensures { Nearest work.now depth tag result }
 {
-    let mut d = depth;
-    while 0 < d {
-        d -= 1;
+    for d in (0..depth).rev() {
         if tag_at(work, d) == tag {
             return Some(d);
         }

@@ -9,6 +9,3 @@ use Rattle.waiting.proofs.nearest.Given as goal
 abbrev pub invariant-loop-d : goal.invariant-loop-d
 invariant-loop-d l =
     (l.d ≤ l.depth) × (from (tag_word l.tag) (stack_of l.depth l.work) ≡ from (tag_word l.tag) (stack_of l.d l.work))
-
-abbrev pub decreases-loop-d : goal.decreases-loop-d
-decreases-loop-d l = l.d
