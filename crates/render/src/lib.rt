@@ -41,11 +41,13 @@ fn nests_down(table: &[u32], steps: u32, start: Due) -> Nested
     requires { Held table.now start }
     ensures { Came table.now steps start result }
 {
-    let mut left = steps;
     let mut due = start;
-    while 0 < left {
+    for left in (0..steps).rev() {
         let Some(node) = fitting::next_in_row(table, table::NEST, due.node) else {
-            return Nested { left, due };
+            return Nested {
+                left: left + 1,
+                due,
+            };
         };
         let at = (due.node.0 as usize) * 4;
         let indent = lay::nest_by(due.indent, table[at + 2], table[at + 3]);
@@ -54,9 +56,8 @@ fn nests_down(table: &[u32], steps: u32, start: Due) -> Nested
             indent,
             ..due
         };
-        left -= 1;
     }
-    Nested { left, due }
+    Nested { left: 0, due }
 }
 
 // The node due is visited. A word is read where it is used: read all at once they would take the registers of others.

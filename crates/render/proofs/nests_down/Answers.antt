@@ -1,4 +1,4 @@
-use native.Mathlib.Omega.{arith}
+use Rattle.std.proofs.Common.{arith, ◌≡◌, ◌+◌, ◌-◌}
 use Rattle.render.proofs.Again.{falls-start, falls-next, nest-below, nest-small}
 use Rattle.render.proofs.nests_down.Goals as goal
 
@@ -19,7 +19,13 @@ loop-left-preserved c =
     falls-next here.held (next.of_kind _ c.in-Some.is) _ (next.beside _ c.in-Some.is) c.nest_by-indent.ensures _ (next.child _ c.in-Some.is) here (omega arith)
 
 pub returns-in_default : goal.returns-in_default
-returns-in_default c = c.loop-left.invariant.came
+returns-in_default c =
+    let here = c.loop-left.invariant in
+    let left : c.loop-left.left ≡ c.loop-left.left - 1 + 1 = omega arith in
+    rw (← left) here.came
 
 pub returns : goal.returns
-returns c = c.loop-left.invariant.came
+returns c =
+    let here = c.loop-left.invariant in
+    let none : c.loop-left.left ≡ 0 = omega arith in
+    rw none at here.came

@@ -4,7 +4,4 @@ use Rattle.render.proofs.Again.{Falling}
 use Rattle.render.proofs.nests_down.Given as goal
 
 abbrev pub invariant-loop-left : goal.invariant-loop-left
-invariant-loop-left l = Falling l.table l.initial.left l.initial.due l.left l.due
-
-abbrev pub decreases-loop-left : goal.decreases-loop-left
-decreases-loop-left l = l.left
+invariant-loop-left l = Falling l.table l.steps l.initial.due l.left l.due
