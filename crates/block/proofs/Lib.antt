@@ -4,6 +4,7 @@ mod Chain
 mod Layers
 mod Steps
 mod Groups
+mod Backward
 mod Loops
 mod Splits
 mod Starts

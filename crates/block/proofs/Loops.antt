@@ -105,8 +105,9 @@ module _ {c : Counts} {table text : List ℕ} (r : Ready c table text) {b : Bloc
       let none : drop (length ps) ps ≡ [] = drop_of_length-le ps {i = length ps} (omega arith) in
       record { inside = omega arith; place = rw none (begin r); node = rw none refl }
 
-  -- a turn goes from suc j to j, where i is suc j
-  module _ {i : ℕ} (some : 0 < i) {c₁ : Counts} {n₁ : NodeNo} {table₁ : List ℕ} (here : Here i c₁ n₁ table₁) where
+  -- a turn goes from suc j to j, where i is suc j, by the prefix and the flag at j
+  module _ {i : ℕ} (some : 0 < i) {c₁ : Counts} {n₁ : NodeNo} {table₁ : List ℕ} (here : Here i c₁ n₁ table₁) {p : ℕ} {q : Bool}
+      (p-is : p ≡ get_or ps (i - 1) 0) (q-is : q ≡ get_or qs (i - 1) false) where
     abbrev j : ℕ
     j = i - 1
 
@@ -122,15 +123,15 @@ module _ {c : Counts} {table text : List ℕ} (r : Ready c table text) {b : Bloc
     prefix-there : get_or ps j 0 < (so_far (suc j)).draft.counts.nodes
     prefix-there = stays-there inner (below_at ps j below one_less)
 
-    pub wrap_asks : Ready c₁ table₁ text × Bodied c₁ b × (n₁.0 < c₁.nodes) × (get_or ps j 0 < c₁.nodes)
-    wrap_asks = (ready standing.place, bodied_later standing.place k, rw standing.node (counted-node standing.place inner.present), counted-node standing.place prefix-there)
+    pub wrap_asks : Ready c₁ table₁ text × Bodied c₁ b × (n₁.0 < c₁.nodes) × (p < c₁.nodes)
+    wrap_asks = (ready standing.place, bodied_later standing.place k, rw standing.node (counted-node standing.place inner.present), rw p-is (counted-node standing.place prefix-there))
 
-    module _ {m₂ : Made} {table₂ : List ℕ} (ran : Ran c₁ table₁ text (wrap (counted c₁ table₁ text) b n₁.0 (get_or ps j 0) (get_or qs j false)) m₂ table₂) where
+    module _ {m₂ : Made} {table₂ : List ℕ} (ran : Ran c₁ table₁ text (wrap (counted c₁ table₁ text) b n₁.0 p q) m₂ table₂) where
       one_more : Ran c table text (so_far j) m₂ table₂
       one_more =
           rw (wraps-next s₀ b n.0 ps qs j e one_less)
           (go standing.place (λ s. wrap s b (so_far (suc j)).node (get_or ps j 0) (get_or qs j false))
-          (wrap_adds (so_far (suc j)).draft b (so_far (suc j)).node (get_or ps j 0) (get_or qs j false) inner.present prefix-there) (rw standing.node at ran))
+          (wrap_adds (so_far (suc j)).draft b (so_far (suc j)).node (get_or ps j 0) (get_or qs j false) inner.present prefix-there) (rw (p-is, q-is, standing.node) at ran))
 
       pub wrap-stop : {why : Why} → m₂ ≡ Err why → Ran c table text (wraps s₀ b n.0 ps qs) m₂ table₂
       wrap-stop x = stop r (far-adds j) one_more x (wraps-rest s₀ b n.0 ps qs j e (start-node r h) below)

@@ -96,8 +96,8 @@ pub fn wraps(
 {
     let mut c = c;
     let mut n = n;
-    for i in (0..prefixes.len()).rev() {
-        let (next, m) = wrap(c, table, text, block, n, NodeNo(prefixes[i]), nests[i])?;
+    for (&prefix, &flag) in prefixes.iter().rev().zip(nests.iter().rev()) {
+        let (next, m) = wrap(c, table, text, block, n, NodeNo(prefix), flag)?;
         c = next;
         n = m;
     }
