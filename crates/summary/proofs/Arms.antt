@@ -1,13 +1,13 @@
 -- A node by its words: which of them are numbers of nodes below, what it unfolds to, and its summary by those below it.
 -- Assumes nothing.
-use Prim.Native.Nat.{ℕ, ◌≤◌, ◌<◌}
+use Prim.Native.Nat.{ℕ, ◌+◌, ◌*◌, ◌≤◌, ◌<◌}
 use native.Mathlib.Omega.{arith}
 use mathlib.Core.Path.{◌≡◌, refl, sym, ap, ap₂, subst, ◌∙◌}
 use mathlib.Core.Logic.{inl, inr, ⊎_elim}
 use mathlib.Core.Bool.{Bool, true, false}
 use mathlib.Core.List.{List, [], ◌∷◌}
 use types.Run.{OneOf}
-use lib.ListN.{get_or}
+use lib.ListN.{length, get_or}
 use lib.Dec.{eqb}
 use borrow.Author.Tests.{le-leb, ne_eqb, eqb-true, eqb-false}
 use Rattle.table.specs.Node.{Node, node_of, node_at}
@@ -16,9 +16,9 @@ use Rattle.table.specs.Unfold.{tree_of, tree}
 use Rattle.table.specs.Sound.{Sound}
 use Rattle.table.proofs.Unfolded.{tree-node}
 use Rattle.rules.specs.Layout.{mode_if}
-use Rattle.summary.specs.Summary.{Summary, no_text, texts, never, join, summary, read_word}
-use Rattle.summary.specs.Promise.{place_of, Says, Small, Sums, Reads, Below}
-use Rattle.summary.proofs.Laws.{summary_small, read-word}
+use Rattle.summary.specs.Summary.{summary, word_of}
+use Rattle.summary.specs.Promise.{place_of, join_words, Reads, Says, Below}
+use Rattle.summary.proofs.Laws.{summary_bound, join-words}
 
 -- the kinds with one child: Group, Nest, Annotated and Align
 abbrev pub OneChild : ℕ → Type 0
@@ -66,71 +66,74 @@ module _ {T : List ℕ} {n : ℕ} {w : Words} (sound : Sound 65536 n (node_at T 
 
 -- ---- a node's summary
 
-pub sums_small : {T : List ℕ} {n : ℕ} {f : Bool} {s : Summary} → Sums T n f s → Small s
-sums_small {T} {n} {f} g = subst Small (sym (g.is [])) (summary_small (tree T [] n) (mode_if f))
-
--- read back from its word
-pub read_sums : (T : List ℕ) (n m : ℕ) (f : Bool) (s : Summary) → Says T n f m → s ≡ read_word m → Sums T n f s
-read_sums T n m f s g e =
-    record { is = λ bytes. e ∙ ap read_word (g bytes) ∙ read-word (summary (tree T bytes n) (mode_if f)) (summary_small (tree T bytes n) (mode_if f)) }
-
 module _ {T M : List ℕ} {n : ℕ} (h : Below T M n) where
-  pub child-sums : (x : ℕ) (f : Bool) (s : Summary) → x < n → s ≡ read_word (get_or M (place_of x f) 0) → Sums T x f s
-  child-sums x f s less e = read_sums T x _ f s (h.summed x less f) e
+  -- the summary of a node below n is in the memo
+  pub child-place : (x : ℕ) → x < n → (x < 1024) × (x * 2 + 2 ≤ length M)
+  child-place x less = (omega (arith, h.small), omega (arith, h.room))
+
+  -- and small
+  pub child-small : (x : ℕ) (f : Bool) (m : ℕ) → x < n → m ≡ get_or M (place_of x f) 0 → m ≤ 65538
+  child-small x f m less e = rw (e, h.summed x less f []) (summary_bound (tree T [] x) (mode_if f))
 
   module _ {w : Words} (r : Reads T n w) where
-    sums_as : (nd : Node) → node_at T n ≡ nd → (f : Bool) (s : Summary)
-        → ((bytes : List ℕ) → s ≡ summary (tree_of bytes (tree T bytes) n nd) (mode_if f)) → Sums T n f s
-    sums_as nd e f s g = record { is = λ bytes. g bytes ∙ ap (λ t. summary t (mode_if f)) (sym (unfolds h.sound r nd e bytes)) }
+    says_as : (nd : Node) → node_at T n ≡ nd → (f : Bool) (x : ℕ)
+        → ((bytes : List ℕ) → x ≡ word_of (summary (tree_of bytes (tree T bytes) n nd) (mode_if f))) → Says T n f x
+    says_as nd e f x g bytes = g bytes ∙ ap (λ t. word_of (summary t (mode_if f))) (sym (unfolds h.sound r nd e bytes))
 
-    pub sums-nil : (f : Bool) → w.kind ≡ 0 → Sums T n f no_text
+    pub says-nil : (f : Bool) → w.kind ≡ 0 → Says T n f 0
     unfolding summary
-    sums-nil f e = sums_as Node.nil (node_of_lem h.sound r 0 e) f no_text (λ bytes. refl)
+    says-nil f e = says_as Node.nil (node_of_lem h.sound r 0 e) f 0 (λ bytes. refl)
 
-    pub sums-text : (f : Bool) → w.kind ≡ 6 → Sums T n f (texts w.c)
+    pub says-text : (f : Bool) → w.kind ≡ 6 → Says T n f (w.c + 1)
     unfolding summary
-    sums-text f e =
-        sums_as (Node.text w.a w.b w.c) (node_of_lem h.sound r 6 e) f (texts w.c) (λ bytes. rw (le-leb w.c 65536 (text-columns h.sound r e)))
+    says-text f e =
+        says_as (Node.text w.a w.b w.c) (node_of_lem h.sound r 6 e) f (w.c + 1) (λ bytes. rw (le-leb w.c 65536 (text-columns h.sound r e)))
 
-    sums-hardline : (f : Bool) → w.kind ≡ 5 → Sums T n f never
+    says-hardline : (f : Bool) → w.kind ≡ 5 → Says T n f 65538
     unfolding summary
-    sums-hardline f e = sums_as Node.hardline (node_of_lem h.sound r 5 e) f never (λ bytes. refl)
+    says-hardline f e = says_as Node.hardline (node_of_lem h.sound r 5 e) f 65538 (λ bytes. refl)
 
-    sums-fail : (f : Bool) → node_at T n ≡ Node.fail → Sums T n f never
+    says-fail : (f : Bool) → node_at T n ≡ Node.fail → Says T n f 65538
     unfolding summary
-    sums-fail f e = sums_as Node.fail e f never (λ bytes. refl)
+    says-fail f e = says_as Node.fail e f 65538 (λ bytes. refl)
 
     -- a Hardline, or a kind that is none of 0 to 9
-    pub sums-stop : (f : Bool)
-        → (w.kind ≡ 0 → ⊥) → (w.kind ≡ 1 → ⊥) → (OneChild w.kind → ⊥) → (w.kind ≡ 3 → ⊥) → (w.kind ≡ 6 → ⊥) → (w.kind ≡ 8 → ⊥) → Sums T n f never
-    sums-stop f h0 h1 one h3 h6 h8 = by (eqb w.kind 5) refl
+    pub says-stop : (f : Bool)
+        → (w.kind ≡ 0 → ⊥) → (w.kind ≡ 1 → ⊥) → (OneChild w.kind → ⊥) → (w.kind ≡ 3 → ⊥) → (w.kind ≡ 6 → ⊥) → (w.kind ≡ 8 → ⊥) → Says T n f 65538
+    says-stop f h0 h1 one h3 h6 h8 = by (eqb w.kind 5) refl
       where
-        by : (q : Bool) → eqb w.kind 5 ≡ q → Sums T n f never
-        by true e = sums-hardline f (eqb-true w.kind 5 e)
-        by false e = sums-fail f (node-none h.sound r h0 h1 one h3 (eqb-false w.kind 5 e) h6 h8)
+        by : (q : Bool) → eqb w.kind 5 ≡ q → Says T n f 65538
+        by true e = says-hardline f (eqb-true w.kind 5 e)
+        by false e = says-fail f (node-none h.sound r h0 h1 one h3 (eqb-false w.kind 5 e) h6 h8)
 
-    pub sums-append : (f : Bool) → w.kind ≡ 1 → (x y : Summary) → Sums T w.a f x → Sums T w.b f y → Sums T n f (join x y)
+    pub says-append : (f : Bool) → w.kind ≡ 1 → Says T n f (join_words (get_or M (place_of w.a f) 0) (get_or M (place_of w.b f) 0))
     unfolding summary
-    sums-append f e x y first second =
-        sums_as (Node.append w.a w.b) (node_of_lem h.sound r 1 e) f _ (λ bytes. ap₂ join (first.is bytes) (second.is bytes))
+    says-append f e =
+        let less = append-below h.sound r e in
+        says_as (Node.append w.a w.b) (node_of_lem h.sound r 1 e) f _
+        (λ bytes. ap₂ join_words (h.summed w.a less.0 f bytes) (h.summed w.b less.1 f bytes)
+        ∙ sym (join-words (summary (tree T bytes w.a) (mode_if f)) (summary (tree T bytes w.b) (mode_if f))))
 
-    pub sums_one : (f : Bool) → OneChild w.kind → (s : Summary) → Sums T w.a f s → Sums T n f s
+    pub says_one : (f : Bool) → OneChild w.kind → Says T n f (get_or M (place_of w.a f) 0)
     unfolding summary
-    sums_one f kind s child =
-        ⊎_elim (λ e. sums_as (Node.group w.a) (node_of_lem h.sound r 2 e) f _ child.is)
-        (⊎_elim (λ e. sums_as _ (node_of_lem h.sound r 4 e) f _ child.is)
-        (⊎_elim (λ e. sums_as (Node.annotated w.a w.b) (node_of_lem h.sound r 7 e) f _ child.is)
-        (λ e. sums_as (Node.align w.a) (node_of_lem h.sound r 9 e) f _ child.is)))
+    says_one f kind =
+        let child = h.summed w.a (one_below h.sound r kind) f in
+        ⊎_elim (λ e. says_as (Node.group w.a) (node_of_lem h.sound r 2 e) f _ child)
+        (⊎_elim (λ e. says_as _ (node_of_lem h.sound r 4 e) f _ child)
+        (⊎_elim (λ e. says_as (Node.annotated w.a w.b) (node_of_lem h.sound r 7 e) f _ child)
+        (λ e. says_as (Node.align w.a) (node_of_lem h.sound r 9 e) f _ child)))
         kind
 
-    pub sums-flat_alt-flat : w.kind ≡ 3 → (s : Summary) → Sums T w.b true s → Sums T n true s
+    pub says-flat_alt-flat : w.kind ≡ 3 → Says T n true (get_or M (place_of w.b true) 0)
     unfolding summary
-    sums-flat_alt-flat e s child = sums_as (Node.flat_alt w.a w.b) (node_of_lem h.sound r 3 e) true _ child.is
+    says-flat_alt-flat e =
+        says_as (Node.flat_alt w.a w.b) (node_of_lem h.sound r 3 e) true _ (h.summed w.b (flat_alt-below h.sound r e).1 true)
 
-    pub sums-flat_alt-broken : w.kind ≡ 3 → (s : Summary) → Sums T w.a false s → Sums T n false s
+    pub says-flat_alt-broken : w.kind ≡ 3 → Says T n false (get_or M (place_of w.a false) 0)
     unfolding summary
-    sums-flat_alt-broken e s child = sums_as (Node.flat_alt w.a w.b) (node_of_lem h.sound r 3 e) false _ child.is
+    says-flat_alt-broken e =
+        says_as (Node.flat_alt w.a w.b) (node_of_lem h.sound r 3 e) false _ (h.summed w.a (flat_alt-below h.sound r e).0 false)
 
-    pub sums-union : (f : Bool) → w.kind ≡ 8 → (s : Summary) → Sums T w.b f s → Sums T n f s
+    pub says-union : (f : Bool) → w.kind ≡ 8 → Says T n f (get_or M (place_of w.b f) 0)
     unfolding summary
-    sums-union f e s child = sums_as (Node.union w.a w.b) (node_of_lem h.sound r 8 e) f _ child.is
+    says-union f e = says_as (Node.union w.a w.b) (node_of_lem h.sound r 8 e) f _ (h.summed w.b (union-below h.sound r e) f)

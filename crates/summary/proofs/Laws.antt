@@ -1,57 +1,73 @@
 -- What a summary says of the walk down a tree, and how summaries join as words.
 --     summary-met      the walk comes through as the summary says, for every width up to 65,536
---     read-word        a summary's word stands for it
---     summary_small    a summary has Texts of at most 65,536 columns
---     came-bare, came-fits, came-past, came-never   a first part by its summary: no Text, its Texts fit, or they don't, or it never comes through
+--     summary_bound    a summary is at most 65,538 as a word
+--     join-words       one part after another, as words
+--     came-bare, came-fits, came-past   a first part by its word: no Text, its Texts fit, or they don't
 -- Assumes nothing.
-use Prim.Native.Nat.{ℕ, ◌+◌, ◌≤◌, ◌<◌}
+use Prim.Native.Nat.{ℕ, ◌+◌, ◌-◌, ◌≤◌, ◌<◌}
 use native.Mathlib.Omega.{arith}
-use mathlib.Core.Path.{◌≡◌, refl, ap, subst}
+use native.Mathlib.Decide.{dec_le}
+use mathlib.Core.Path.{◌≡◌, refl, subst}
 use mathlib.Core.Bool.{Bool, true, false}
-use lib.Dec.{leb}
-use borrow.Author.Tests.{leb-true, leb-false, le-leb, ne_eqb}
+use lib.Dec.{leb, eqb}
+use borrow.Author.Tests.{leb-true, leb-false, le-leb, lt-leb, ne_eqb}
 use Rattle.choice.specs.Pick.{pick}
 use Rattle.table.specs.Unfold.{Tree, nil, append, group, flat_alt, nest, hardline, text, annotated, union, align, fail}
 use Rattle.rules.specs.Layout.{Mode, flat, broken}
 use Rattle.rules.specs.Why.{Reason, text_past, Met, through, found, then_meets, first_in}
-use Rattle.summary.specs.Summary.{Summary, no_text, texts, never, wide, join, summary, word_of, read_word}
-use Rattle.summary.specs.Promise.{Small}
+use Rattle.summary.specs.Summary.{Summary, no_text, texts, never, wide, join, summary, word_of}
+use Rattle.summary.specs.Promise.{join_words}
 
 -- ---- as words
 
-pub read-word : (s : Summary) → Small s → read_word (word_of s) ≡ s
-read-word no_text h = refl
-read-word (texts k) h = rw (ne_eqb (k + 1) 0 (λ e. omega arith), le-leb (k + 1) 65537 (omega arith)) (ap texts (omega arith))
-read-word never h = refl
-
-small_wide : (k : ℕ) → Small (wide k)
-small_wide k = by (leb k 65536) refl
+wide_bound : (k : ℕ) → word_of (wide k) ≤ 65538
+wide_bound k = by (leb k 65536) refl
   where
-    by : (b : Bool) → leb k 65536 ≡ b → Small (pick b (texts k) never)
-    by true e = leb-true k 65536 e
-    by false e = tt
+    by : (b : Bool) → leb k 65536 ≡ b → word_of (pick b (texts k) never) ≤ 65538
+    by true e = omega (arith, leb-true k 65536 e)
+    by false e = omega arith
 
-small_join : (x y : Summary) → Small x → Small y → Small (join x y)
-small_join no_text y h g = g
-small_join (texts a) no_text h g = h
-small_join (texts a) (texts b) h g = small_wide (a + b)
-small_join (texts a) never h g = tt
-small_join never y h g = tt
+join_bound : (x y : Summary) → word_of x ≤ 65538 → word_of y ≤ 65538 → word_of (join x y) ≤ 65538
+join_bound no_text y h g = g
+join_bound (texts a) no_text h g = h
+join_bound (texts a) (texts b) h g = wide_bound (a + b)
+join_bound (texts a) never h g = g
+join_bound never y h g = h
 
-pub summary_small : (t : Tree) (m : Mode) → Small (summary t m)
+pub summary_bound : (t : Tree) (m : Mode) → word_of (summary t m) ≤ 65538
 unfolding summary
-summary_small (nil n) m = tt
-summary_small (append n a b) m = small_join (summary a m) (summary b m) (summary_small a m) (summary_small b m)
-summary_small (group n a) m = summary_small a m
-summary_small (flat_alt n a b) flat = summary_small b flat
-summary_small (flat_alt n a b) broken = summary_small a broken
-summary_small (nest n a k way) m = summary_small a m
-summary_small (hardline n) m = tt
-summary_small (text n bs cols) m = small_wide cols
-summary_small (annotated n a l) m = summary_small a m
-summary_small (union n a b) m = summary_small b m
-summary_small (align n a) m = summary_small a m
-summary_small (fail n) m = tt
+summary_bound (nil n) m = omega arith
+summary_bound (append n a b) m = join_bound (summary a m) (summary b m) (summary_bound a m) (summary_bound b m)
+summary_bound (group n a) m = summary_bound a m
+summary_bound (flat_alt n a b) flat = summary_bound b flat
+summary_bound (flat_alt n a b) broken = summary_bound a broken
+summary_bound (nest n a k way) m = summary_bound a m
+summary_bound (hardline n) m = omega arith
+summary_bound (text n bs cols) m = wide_bound cols
+summary_bound (annotated n a l) m = summary_bound a m
+summary_bound (union n a b) m = summary_bound b m
+summary_bound (align n a) m = summary_bound a m
+summary_bound (fail n) m = omega arith
+
+pub join-words : (x y : Summary) → word_of (join x y) ≡ join_words (word_of x) (word_of y)
+join-words no_text y = refl
+join-words (texts a) no_text = let e : eqb (a + 1) 0 ≡ false = ne_eqb (a + 1) 0 (λ e. omega arith) in rw e
+join-words (texts a) (texts b) =
+    let e : eqb (a + 1) 0 ≡ false = ne_eqb (a + 1) 0 (λ e. omega arith) in
+    let f : eqb (b + 1) 0 ≡ false = ne_eqb (b + 1) 0 (λ e. omega arith) in
+    rw (e, f) (by (dec_le (a + b) 65536))
+  where
+    by : Dec (a + b ≤ 65536) → word_of (wide (a + b)) ≡ pick (leb (a + 1 + (b + 1)) 65538) (a + 1 + (b + 1) - 1) 65538
+    by (yes h) = rw (le-leb (a + b) 65536 h, le-leb (a + 1 + (b + 1)) 65538 (omega arith)) (omega arith)
+    by (no h) = rw (lt-leb (a + b) 65536 (omega arith), lt-leb (a + 1 + (b + 1)) 65538 (omega arith))
+join-words (texts a) never =
+    let e : eqb (a + 1) 0 ≡ false = ne_eqb (a + 1) 0 (λ e. omega arith) in
+    rw (e, lt-leb (a + 1 + 65538) 65538 (omega arith))
+join-words never no_text = refl
+join-words never (texts b) =
+    let e : eqb (b + 1) 0 ≡ false = ne_eqb (b + 1) 0 (λ e. omega arith) in
+    rw (e, lt-leb (65538 + (b + 1)) 65538 (omega arith))
+join-words never never = refl
 
 -- ---- the walk
 
@@ -115,18 +131,22 @@ module _ (W : ℕ) (small : W ≤ 65536) where
   summary-met (align n a) m c = summary-met a m c
   summary-met (fail n) m c = stops
 
-  -- ---- a first part by its summary, at column c
+  -- ---- a first part by its word, at column c
 
-  pub came-bare : {c : ℕ} {v : Met} → Comes W no_text c v → v ≡ through c
-  came-bare unread = refl
+  pub came-bare : {x : Summary} {c : ℕ} {v : Met} → Comes W x c v → word_of x ≡ 0 → v ≡ through c
+  came-bare unread e = refl
+  came-bare (fits h) e = absurd (omega arith)
+  came-bare (past h) e = absurd (omega arith)
+  came-bare stops e = absurd (omega arith)
 
-  pub came-fits : {k c : ℕ} {v : Met} → Comes W (texts k) c v → c + k ≤ W → v ≡ through (c + k)
-  came-fits (fits g) h = refl
-  came-fits (past g) h = absurd (omega arith)
+  pub came-fits : {x : Summary} {c : ℕ} {v : Met} → Comes W x c v → (word_of x ≡ 0 → ⊥) → c + (word_of x - 1) ≤ W → v ≡ through (c + (word_of x - 1))
+  came-fits unread some h = absurd (some refl)
+  came-fits (fits {k = k} {c = c} g) some h = let e : k + 1 - 1 ≡ k = omega arith in rw e
+  came-fits (past g) some h = absurd (omega arith)
+  came-fits stops some h = absurd (omega arith)
 
-  pub came-past : {k c : ℕ} {v : Met} (next : ℕ → Met) → Comes W (texts k) c v → W < c + k → then_meets v next ≡ v
-  came-past next (fits g) h = absurd (omega arith)
-  came-past next (past g) h = refl
-
-  pub came-never : {c : ℕ} {v : Met} (next : ℕ → Met) → Comes W never c v → then_meets v next ≡ v
-  came-never next stops = refl
+  pub came-past : {x : Summary} {c : ℕ} {v : Met} (next : ℕ → Met) → Comes W x c v → (word_of x ≡ 0 → ⊥) → W < c + (word_of x - 1) → then_meets v next ≡ v
+  came-past next unread some h = absurd (some refl)
+  came-past next (fits g) some h = absurd (omega arith)
+  came-past next (past g) some h = refl
+  came-past next stops some h = refl

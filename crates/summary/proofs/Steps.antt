@@ -1,11 +1,11 @@
 -- One step of the way down, by the node's kind word: to a node below from which the walk leads where it led, or to its end.
 -- Assumes nothing.
-use Prim.Native.Nat.{ℕ, ◌+◌, ◌≤◌, ◌<◌}
+use Prim.Native.Nat.{ℕ, ◌+◌, ◌-◌, ◌≤◌, ◌<◌}
 use native.Mathlib.Omega.{arith}
 use mathlib.Core.Path.{◌≡◌, refl, sym, ap, subst, ◌∙◌}
 use mathlib.Core.Logic.{⊎_elim}
 use mathlib.Core.Bool.{Bool, true, false}
-use mathlib.Core.List.{List}
+use mathlib.Core.List.{List, []}
 use lib.ListN.{get_or}
 use borrow.Author.Tests.{le-leb, lt-leb}
 use Rattle.table.specs.Node.{Node, node_at}
@@ -13,19 +13,15 @@ use Rattle.table.specs.Unfold.{tree_of, tree}
 use Rattle.table.specs.Sound.{Sound}
 use Rattle.rules.specs.Layout.{mode_if}
 use Rattle.rules.specs.Why.{Met, through, found, at_fail, hardline_inside, hardline_after, text_past, then_meets, first_in}
-use Rattle.summary.specs.Summary.{Summary, no_text, texts, never, read_word}
-use Rattle.summary.specs.Promise.{place_of, Sums, Reads, Asked, Leads, Goes}
+use Rattle.summary.specs.Summary.{summary, word_of}
+use Rattle.summary.specs.Promise.{place_of, Reads, Asked, Leads, Goes}
 use Rattle.table.specs.declared.Words.{Words}
-use Rattle.summary.proofs.Laws.{Comes, summary-met, came-bare, came-fits, came-past, came-never}
-use Rattle.summary.proofs.Arms.{OneChild, read_sums, node_of_lem, node-none, append-below, flat_alt-below, union-below, one_below, unfolds}
+use Rattle.summary.proofs.Laws.{Comes, summary_bound, summary-met, came-bare, came-fits, came-past}
+use Rattle.summary.proofs.Arms.{OneChild, node_of_lem, node-none, append-below, flat_alt-below, union-below, one_below, unfolds}
 
 module _ {T M : List ℕ} {n c W N : ℕ} (h : Asked T M n c W N) where
   pub sound : Sound 65536 n (node_at T n)
   sound = h.valid n h.node
-
-  -- the summary of a child is read in the memo
-  asked-sums : (x : ℕ) (f : Bool) (s : Summary) → x < n → s ≡ read_word (get_or M (place_of x f) 0) → Sums T x f s
-  asked-sums x f s less e = read_sums T x _ f s (h.summed x (omega (arith, h.node)) f) e
 
   module _ {w : Words} (r : Reads T n w) where
     module _ (f : Bool) where
@@ -79,18 +75,20 @@ module _ {T M : List ℕ} {n c W N : ℕ} (h : Asked T M n c W N) where
       unfolding first_in
       step-union e = stays_as (Node.union w.a w.b) (node_of_lem sound r 8 e) _ (union-below sound r e) (λ bytes. refl)
 
-      -- ---- a join, by the summary s of its first part
+      -- ---- a join, by the summary m of its first part
 
-      module _ (e : w.kind ≡ 1) where
+      module _ (e : w.kind ≡ 1) (m : ℕ) (first : m ≡ get_or M (place_of w.a f) 0) where
         less : (w.a < n) × (w.b < n)
         less = append-below sound r e
 
-        comes : (s : Summary) → Sums T w.a f s → (bytes : List ℕ) → Comes W s c (first_in W (tree T bytes w.a) (mode_if f) c)
-        comes s first bytes =
-            subst (λ x. Comes W x c (first_in W (tree T bytes w.a) (mode_if f) c)) (sym (first.is bytes)) (summary-met W h.width (tree T bytes w.a) (mode_if f) c)
+        word-is : (bytes : List ℕ) → word_of (summary (tree T bytes w.a) (mode_if f)) ≡ m
+        word-is bytes = sym (first ∙ h.summed w.a (omega (arith, h.node, less.0)) f bytes)
 
-        pub first_part : (s : Summary) → s ≡ read_word (get_or M (place_of w.a f) 0) → Sums T w.a f s
-        first_part s is = asked-sums w.a f s less.0 is
+        pub asked_small : m ≤ 65538
+        asked_small = rw (sym (word-is [])) (summary_bound (tree T [] w.a) (mode_if f))
+
+        comes : (bytes : List ℕ) → Comes W (summary (tree T bytes w.a) (mode_if f)) c (first_in W (tree T bytes w.a) (mode_if f) c)
+        comes bytes = summary-met W h.width (tree T bytes w.a) (mode_if f) c
 
         -- where the walk comes through the first part, the second follows
         goes_second : (end : ℕ) → end ≤ 65536 → ((bytes : List ℕ) → first_in W (tree T bytes w.a) (mode_if f) c ≡ through end) → Goes T n f c W w.b end
@@ -99,23 +97,20 @@ module _ {T M : List ℕ} {n c W N : ℕ} (h : Asked T M n c W N) where
             goes_as (Node.append w.a w.b) (node_of_lem sound r 1 e) _ end less.1 small
             (λ bytes. ap (λ v. then_meets v (λ c. first_in W (tree T bytes w.b) (mode_if f) c)) (sym (came bytes)))
 
-        -- where it doesn't, the second is not met
-        goes-first : ((bytes : List ℕ) (next : ℕ → Met) → then_meets (first_in W (tree T bytes w.a) (mode_if f) c) next ≡ first_in W (tree T bytes w.a) (mode_if f) c)
-            → Goes T n f c W w.a c
+        pub step-bare : m ≡ 0 → Goes T n f c W w.b c
+        step-bare z = goes_second c h.column (λ bytes. came-bare W h.width (comes bytes) (word-is bytes ∙ z))
+
+        pub step_fits : (m ≡ 0 → ⊥) → c + (m - 1) ≤ W → Goes T n f c W w.b (c + (m - 1))
+        step_fits some g =
+            goes_second (c + (m - 1)) (omega (arith, h.width))
+            (λ bytes. subst (λ x. (x ≡ 0 → ⊥) → c + (x - 1) ≤ W → first_in W (tree T bytes w.a) (mode_if f) c ≡ through (c + (x - 1))) (word-is bytes)
+            (came-fits W h.width (comes bytes)) some g)
+
+        pub step_past : (m ≡ 0 → ⊥) → W < c + (m - 1) → Goes T n f c W w.a c
         unfolding first_in
-        goes-first stays = stays_as (Node.append w.a w.b) (node_of_lem sound r 1 e) _ less.0 (λ bytes. sym (stays bytes _))
-
-        pub step-bare : Sums T w.a f no_text → Goes T n f c W w.b c
-        step-bare first = goes_second c h.column (λ bytes. came-bare W h.width (comes no_text first bytes))
-
-        pub step_fits : (k : ℕ) → Sums T w.a f (texts k) → c + k ≤ W → Goes T n f c W w.b (c + k)
-        step_fits k first g = goes_second (c + k) (omega (arith, h.width)) (λ bytes. came-fits W h.width (comes (texts k) first bytes) g)
-
-        pub step_past : (k : ℕ) → Sums T w.a f (texts k) → W < c + k → Goes T n f c W w.a c
-        step_past k first g = goes-first (λ bytes next. came-past W h.width next (comes (texts k) first bytes) g)
-
-        pub step-never : Sums T w.a f never → Goes T n f c W w.a c
-        step-never first = goes-first (λ bytes next. came-never W h.width next (comes never first bytes))
+        step_past some g =
+            stays_as (Node.append w.a w.b) (node_of_lem sound r 1 e) _ less.0
+            (λ bytes. sym (came-past W h.width _ (comes bytes) (λ z. some (sym (word-is bytes) ∙ z)) (rw (word-is bytes) g)))
 
     -- ---- by mode
 

@@ -1,6 +1,7 @@
 -- What the functions promise: the summaries of all nodes in a lent run of words, and where the walk down one node leads.
 -- Assumes nothing.
-use Rattle.std.specs.Prelude.{◌≡◌, ℕ, ◌+◌, ◌*◌, ◌≤◌, ◌<◌, Bool, true, false, List, length, get_or, Result, Ok, Err}
+use Rattle.std.specs.Prelude.{◌≡◌, ℕ, ◌+◌, ◌-◌, ◌*◌, ◌≤◌, ◌<◌, Bool, true, false, List, length, get_or, eqb, leb, Result, Ok, Err}
+use Rattle.choice.specs.Pick.{pick}
 use Rattle.table.specs.Unfold.{tree}
 use Rattle.table.specs.Node.{node_of, node_at}
 use Rattle.table.specs.declared.Words.{Words}
@@ -8,9 +9,7 @@ use Rattle.table.specs.Sound.{Sound, AllSound}
 use Rattle.rules.specs.Why as why
 use Rattle.rules.specs.Layout.{mode_if}
 use Rattle.rules.specs.Why.{first_in}
-use Rattle.summary.specs.Summary.{Summary, no_text, texts, never, summary, word_of}
-use Rattle.summary.specs.declared.Passed.{Passed}
-use Rattle.summary.specs.declared.Passed.TheVariants.{NoText, Texts, Never}
+use Rattle.summary.specs.Summary.{summary, word_of}
 use Rattle.summary.specs.declared.Step.{Step}
 use Rattle.summary.specs.declared.Step.TheVariants.{Down, Through}
 use Rattle.table.specs.declared.Column.{Column}
@@ -26,17 +25,9 @@ abbrev pub place_of : ℕ → Bool → ℕ
 place_of n false = n * 2
 place_of n true = n * 2 + 1
 
--- the code's summary as the definition's
-abbrev pub passed_of : Passed → Summary
-passed_of NoText = no_text
-passed_of (Texts k) = texts k
-passed_of Never = never
-
--- Texts of no more columns than a width can have
-abbrev pub Small : Summary → Type 0
-Small no_text = Unit {0}
-Small (texts k) = k ≤ 65536
-Small never = Unit {0}
+-- two summaries, one after the other, in words
+abbrev pub join_words : ℕ → ℕ → ℕ
+join_words a b = pick (eqb a 0) b (pick (eqb b 0) a (pick (leb (a + b) 65538) (a + b - 1) 65538))
 
 -- a valid table of N nodes, and room for their summaries
 pub record Room (table memo : List ℕ) (N : ℕ) : Type 0 where
@@ -48,10 +39,6 @@ pub record Room (table memo : List ℕ) (N : ℕ) : Type 0 where
 -- the word m is the summary of node n read flat or not, whatever the text bytes are
 abbrev pub Says : List ℕ → ℕ → Bool → ℕ → Type 0
 Says table n f m = (bytes : List ℕ) → m ≡ word_of (summary (tree table bytes n) (mode_if f))
-
--- the same of the summary itself
-pub record Sums (table : List ℕ) (n : ℕ) (f : Bool) (s : Summary) : Type 0 where
-  pub is : (bytes : List ℕ) → s ≡ summary (tree table bytes n) (mode_if f)
 
 -- the memo has the summaries of the nodes 0 to n - 1
 abbrev pub Summed : List ℕ → List ℕ → ℕ → Type 0

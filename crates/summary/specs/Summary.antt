@@ -1,7 +1,7 @@
 -- The summary of a node read in one mode: what a fit test passes on its way through the node, whatever the node unfolds to. It says whether the
 -- walk of rules/specs/Why.antt comes through, from any column and for any width up to 65,536, and at which column.
 -- Assumes nothing.
-use Rattle.std.specs.Prelude.{ℕ, ◌+◌, ◌-◌, eqb, leb}
+use Rattle.std.specs.Prelude.{ℕ, ◌+◌, leb}
 use Rattle.choice.specs.Pick.{pick}
 use Rattle.table.specs.Unfold.{Tree, nil, append, group, flat_alt, nest, hardline, text, annotated, union, align, fail}
 use Rattle.rules.specs.Layout.{Mode, flat, broken}
@@ -47,7 +47,3 @@ abbrev pub word_of : Summary → ℕ
 word_of no_text = 0
 word_of (texts k) = k + 1
 word_of never = 65538
-
--- the summary that a word stands for
-abbrev pub read_word : ℕ → Summary
-read_word w = pick (eqb w 0) no_text (pick (leb w 65537) (texts (w - 1)) never)

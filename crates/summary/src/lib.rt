@@ -2,25 +2,21 @@
 // them the first node below a given one that breaks a group or ends its fit test, found on one way down. Both take time that grows with the
 // nodes of the table: a node that is shared is never read twice on the way.
 //
-// A summary is a `Passed`.
-// kept: as a word in the caller's memory, since C lends the work area as words; `to_word` and `from_word` alone know the words.
+// A summary is one word: 0 where no Text is passed; one more than the columns of the Texts passed; NEVER where the walk doesn't come through.
+// kept: a word, not an enum, for speed: why for a Group over 1,000 joins takes 74,000 instructions a call, with an enum 133,000 (callgrind).
 // Nothing here is an entry point of the library: each function says what it asks of its caller.
 
 #![tactic(auto)]
 
 ghost use Rattle.std.specs.Prelude.{◌≡◌, ◌+◌, ◌*◌, ◌/◌, ◌≤◌, ◌<◌, length, get_or};
-ghost use Rattle.summary.specs.Summary.{join, word_of, read_word};
-ghost use Rattle.summary.specs.Promise.{place_of, Room, Small, Sums, Reads, Below, Summarized, Asked, Leads, Stepped, passed_of, met_of};
+ghost use Rattle.summary.specs.Promise.{place_of, join_words, Room, Says, Reads, Below, Summarized, Asked, Leads, Stepped, met_of};
 
 use table::{
     ALIGN, ANNOTATED, APPEND, Column, FLAT_ALT, GROUP, HARDLINE, NEST, NIL, NodeNo, TEXT, UNION,
     Words,
 };
 
-// The most columns of a width.
-const WIDEST: u32 = 65536;
-
-// The word of a walk that never comes through.
+// A Fail or a Hardline stops the walk, or its Texts have more columns than any width.
 const NEVER: u32 = 65538;
 
 // Why a group goes broken or flat: the first node that breaks its fit test, with the column reached there, for a Text at its end; or what ends it
@@ -34,15 +30,6 @@ pub enum Reason {
     HardlineAfter(NodeNo),
 }
 
-// What a fit test passes on its way through a node: no Text; Texts of so many columns together; or a Fail, a Hardline or Texts
-// of more columns than any width, at which it never comes through.
-#[derive(Clone, Copy)]
-enum Passed {
-    NoText,
-    Texts(u32),
-    Never,
-}
-
 // One step of the way down: to a node below, from a column; or through, to a column.
 #[derive(Clone, Copy)]
 enum Step {
@@ -52,61 +39,32 @@ enum Step {
 
 // ---- the summaries
 
-// Inlined: as calls of their own the summaries of 1,000 joins take 8.6 million instructions in place of 6.8 (callgrind, 50 calls of why).
-impl Passed {
-    // Its word: 0; one more than the columns; NEVER.
-    #[inline(always)]
-    fn to_word(self) -> u32
-        requires { Small (passed_of self) }
-        ensures { result ≡ word_of (passed_of self) }
-    {
-        match self {
-            Passed::NoText => 0,
-            Passed::Texts(columns) => columns + 1,
-            Passed::Never => NEVER,
-        }
-    }
-
-    #[inline(always)]
-    fn from_word(word: u32) -> Passed
-        ensures { passed_of result ≡ read_word word }
-    {
-        if word == 0 {
-            Passed::NoText
-        } else if word < NEVER {
-            Passed::Texts(word - 1)
-        } else {
-            Passed::Never
-        }
-    }
-
-    // One part after another.
-    #[inline(always)]
-    fn join(self, next: Passed) -> Passed
-        requires { Small (passed_of self) × Small (passed_of next) }
-        ensures { passed_of result ≡ join (passed_of self) (passed_of next) }
-    {
-        match (self, next) {
-            (Passed::NoText, _) => next,
-            (Passed::Texts(_), Passed::NoText) => self,
-            (Passed::Texts(a), Passed::Texts(b)) if a + b <= WIDEST => Passed::Texts(a + b),
-            _ => Passed::Never,
-        }
-    }
-}
-
 // A node's summary, broken or flat.
-#[inline(always)]
-fn summary_at(memo: &[u32], node: u32, flat: bool) -> Passed
+fn summary_at(memo: &[u32], node: u32, flat: bool) -> u32
     requires { (node < 1024) × (node * 2 + 2 ≤ length memo.now) }
-    ensures { passed_of result ≡ read_word (get_or memo.now (place_of node flat) 0) }
+    ensures { result ≡ get_or memo.now (place_of node flat) 0 }
 {
     let at = (node as usize) * 2;
-    Passed::from_word(if flat { memo[at + 1] } else { memo[at] })
+    if flat { memo[at + 1] } else { memo[at] }
+}
+
+// One part after another.
+fn joined(first: u32, second: u32) -> u32
+    requires { (first ≤ 65538) × (second ≤ 65538) }
+    ensures { result ≡ join_words first second }
+{
+    if first == 0 {
+        second
+    } else if second == 0 {
+        first
+    } else if first + second <= NEVER {
+        first + second - 1
+    } else {
+        NEVER
+    }
 }
 
 // A node's words.
-#[inline(always)]
 fn words_at(table: &[u32], node: u32) -> Words
     requires { (node < 1024) × (node * 4 + 4 ≤ length table.now) }
     ensures { Reads table.now node result }
@@ -121,26 +79,24 @@ fn words_at(table: &[u32], node: u32) -> Words
 }
 
 // The summary of a node, by those of the nodes below it.
-#[inline(always)]
-fn node_summary(table: &[u32], memo: &[u32], node: u32, flat: bool) -> Passed
+fn node_summary(table: &[u32], memo: &[u32], node: u32, flat: bool) -> u32
     requires { Below table.now memo.now node }
-    ensures { Sums table.now node flat (passed_of result) }
+    ensures { Says table.now node flat result }
 {
     let w = words_at(table, node);
     match w.kind {
-        NIL => Passed::NoText,
-        APPEND => summary_at(memo, w.a, flat).join(summary_at(memo, w.b, flat)),
+        NIL => 0,
+        APPEND => joined(summary_at(memo, w.a, flat), summary_at(memo, w.b, flat)),
         GROUP | NEST | ANNOTATED | ALIGN => summary_at(memo, w.a, flat),
         FLAT_ALT if flat => summary_at(memo, w.b, flat),
         FLAT_ALT => summary_at(memo, w.a, flat),
-        TEXT => Passed::Texts(w.c),
+        TEXT => w.c + 1,
         UNION => summary_at(memo, w.b, flat),
-        _ => Passed::Never,
+        _ => NEVER,
     }
 }
 
 // The summaries of all nodes, from node 0 up, two words each: broken, then flat.
-#[tactic(auto, using(crate::proofs::Arms::sums_small))]
 pub fn summarize(table: &[u32], memo: &mut [u32])
     requires { Room table.now memo.old (length table.now / 4) }
     ensures { Summarized table.now memo.old (length table.now / 4) memo.new }
@@ -149,8 +105,8 @@ pub fn summarize(table: &[u32], memo: &mut [u32])
     for n in 0..nodes {
         let broken = node_summary(table, memo, n as u32, false);
         let flat = node_summary(table, memo, n as u32, true);
-        memo[n * 2] = broken.to_word();
-        memo[n * 2 + 1] = flat.to_word();
+        memo[n * 2] = broken;
+        memo[n * 2 + 1] = flat;
     }
 }
 
@@ -171,13 +127,18 @@ fn step_down(
     let w = words_at(table, node.0);
     match w.kind {
         NIL => Ok(Step::Through(column)),
-        APPEND => match summary_at(memo, w.a, flat) {
-            Passed::NoText => Ok(Step::Down(NodeNo(w.b), column)),
-            Passed::Texts(columns) if column.0 + columns <= width => {
-                Ok(Step::Down(NodeNo(w.b), Column(column.0 + columns)))
+        APPEND => {
+            let first = summary_at(memo, w.a, flat);
+            if first == 0 {
+                return Ok(Step::Down(NodeNo(w.b), column));
             }
-            Passed::Texts(_) | Passed::Never => Ok(Step::Down(NodeNo(w.a), column)),
-        },
+            let end = Column(column.0 + (first - 1));
+            if end.0 <= width {
+                Ok(Step::Down(NodeNo(w.b), end))
+            } else {
+                Ok(Step::Down(NodeNo(w.a), column))
+            }
+        }
         GROUP | NEST | ANNOTATED | ALIGN => Ok(Step::Down(NodeNo(w.a), column)),
         FLAT_ALT if flat => Ok(Step::Down(NodeNo(w.b), column)),
         FLAT_ALT => Ok(Step::Down(NodeNo(w.a), column)),

@@ -1,32 +1,28 @@
 -- `summary::step_down` meets its contract: an arm for each kind, by the law that Steps.antt has for it.
 -- Assumes nothing.
 use native.Mathlib.Omega.{arith}
-use Rattle.summary.proofs.Steps.{first_part, step-nil, step-bare, step_fits, step_past, step-never, step_one, step-flat_alt-flat, step-flat_alt-broken, step-hardline-flat, step-hardline-broken, step-text, step-text-past, step-union, step-fail}
+use Rattle.summary.proofs.Steps.{asked_small, step-nil, step-bare, step_fits, step_past, step_one, step-flat_alt-flat, step-flat_alt-broken, step-hardline-flat, step-hardline-broken, step-text, step-text-past, step-union, step-fail}
 use Rattle.summary.proofs.step_down.Goals as goal
 
 pub returns-in-0 : goal.returns-in-0
 returns-in-0 c =
     step-nil c.requires c.words_at-w.ensures c.args.flat c.in-0.is
 
-pub returns-in-NoText : goal.returns-in-NoText
-returns-in-NoText c =
-    step-bare c.requires c.words_at-w.ensures c.args.flat c.in-1.is
-    (first_part c.requires c.words_at-w.ensures c.args.flat c.in-1.is _ c.in-NoText.ensures)
+pub overflow_add-end : goal.overflow_add-end
+overflow_add-end c =
+    omega (arith, asked_small c.requires c.words_at-w.ensures c.args.flat c.in-1.is _ c.summary_at-first.ensures, c.requires.column)
 
-pub returns-in-Texts : goal.returns-in-Texts
-returns-in-Texts c =
-    step_fits c.requires c.words_at-w.ensures c.args.flat c.in-1.is _
-    (first_part c.requires c.words_at-w.ensures c.args.flat c.in-1.is _ c.in-Texts.ensures) c.if-column-columns.true
+pub returns-then-first-eq0 : goal.returns-then-first-eq0
+returns-then-first-eq0 c =
+    step-bare c.requires c.words_at-w.ensures c.args.flat c.in-1.is _ c.summary_at-first.ensures c.if-first-eq0.true
 
-pub returns-in-Texts-2 : goal.returns-in-Texts-2
-returns-in-Texts-2 c =
-    step_past c.requires c.words_at-w.ensures c.args.flat c.in-1.is _
-    (first_part c.requires c.words_at-w.ensures c.args.flat c.in-1.is _ c.in-Texts.ensures) c.if-column-columns.false
+pub returns-then-end-width : goal.returns-then-end-width
+returns-then-end-width c =
+    step_fits c.requires c.words_at-w.ensures c.args.flat c.in-1.is _ c.summary_at-first.ensures c.if-first-eq0.false c.if-end-width.true
 
-pub returns-in-Texts-2-2 : goal.returns-in-Texts-2-2
-returns-in-Texts-2-2 c =
-    step-never c.requires c.words_at-w.ensures c.args.flat c.in-1.is
-    (first_part c.requires c.words_at-w.ensures c.args.flat c.in-1.is _ c.in-Texts-2.ensures)
+pub returns-else-end-width : goal.returns-else-end-width
+returns-else-end-width c =
+    step_past c.requires c.words_at-w.ensures c.args.flat c.in-1.is _ c.summary_at-first.ensures c.if-first-eq0.false c.if-end-width.false
 
 pub returns-in-2 : goal.returns-in-2
 returns-in-2 c =
@@ -48,13 +44,13 @@ pub returns-in-5-2 : goal.returns-in-5-2
 returns-in-5-2 c =
     rw c.if-flat-2.false (step-hardline-broken c.requires c.words_at-w.ensures c.in-5.is)
 
-pub returns-then-end-width : goal.returns-then-end-width
-returns-then-end-width c =
-    step-text c.requires c.words_at-w.ensures c.args.flat c.in-6.is c.if-end-width.true
+pub returns-then-end-width-2 : goal.returns-then-end-width-2
+returns-then-end-width-2 c =
+    step-text c.requires c.words_at-w.ensures c.args.flat c.in-6.is c.if-end-width-2.true
 
-pub returns-else-end-width : goal.returns-else-end-width
-returns-else-end-width c =
-    step-text-past c.requires c.words_at-w.ensures c.args.flat c.in-6.is c.if-end-width.false
+pub returns-else-end-width-2 : goal.returns-else-end-width-2
+returns-else-end-width-2 c =
+    step-text-past c.requires c.words_at-w.ensures c.args.flat c.in-6.is c.if-end-width-2.false
 
 pub returns-in-8 : goal.returns-in-8
 returns-in-8 c =
