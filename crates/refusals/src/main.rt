@@ -11,6 +11,7 @@ use std::io::Read;
 // Runs every input.
 fn run_all<P: Print>(input: &[u8], rt: &P) {
     let mut rest = input;
+    // kept: no index is counted, and `split` passes over the `%` alone, not the line feed behind it
     while let Some(end) = rest.iter().position(|b| *b == b'%') {
         let _told = strip::run(&rest[..end], &mut io::writer(rt), &mut io::writer(rt));
         rest = behind(rest, end + 2);

@@ -1,42 +1,36 @@
 -- The laws of reading a list of numbers, over plain lists.
---     digit-..                          what a byte is worth, by where it lies
---     small                             a number times its base
+--     digit_worth, digit_none           what a byte is worth in a base, or that it is no digit there
 --     value-more, value-over, value-end     a number: a digit more, a byte that ends it, the end of the bytes
 --     digits-within                     its digits lie in the bytes
 --     number_alone, number-times        a number with no count behind it, and one with its count
 --     list-number, list-other, list-end between numbers: one starts, none does, the end
 -- Assumes nothing.
-use Rattle.std.proofs.Common.{◌≡◌, ℕ, ◌+◌, ◌-◌, ◌*◌, ◌^◌, ◌<◌, ◌≤◌, Bool, true, false, eqb, ltb, List, [], ◌∷◌, ◌++◌, length, get_or, drop, replicate, sym, refl, ap, ◌∙◌, ap₂, append-nil, mul-le-mul, arith, drop-drop, le-ltb, lt-ltb, eq-eqb, ne_eqb, le-leb}
-use borrow.Author.Tests.{lt-leb}
+use Rattle.std.proofs.Common.{◌≡◌, ℕ, ◌+◌, ◌<◌, ◌≤◌, Bool, true, false, eqb, ltb, List, [], ◌∷◌, ◌++◌, length, get_or, drop, replicate, sym, refl, ap, ◌∙◌, ap₂, append-nil, arith, drop-drop, le-ltb, lt-ltb, eq-eqb, ne_eqb}
+use borrow.Author.Tests.{ltb-true, ltb-false}
 use Rattle.choice.specs.Pick.{pick}
 use Rattle.buffer.proofs.Reading.{more, done}
+use Rattle.std.specs.Prelude.{Some, None}
+use Rattle.replay.specs.Bases.{digit_in}
 use Rattle.replay.specs.Numbers.{digit_of, further, value_of, digits, between, value, times, listed}
 
 -- ---- a digit
 
-module _ (b : ℕ) where
-  pub digit_low : b < 48 → 16 ≡ digit_of b
-  digit_low h = rw (lt-leb 48 b h, lt-leb 97 b (omega arith))
+module _ (base b : ℕ) where
+  pub digit_worth : (d : ℕ) → Some d ≡ digit_in base b → (d ≡ digit_of b) × (d < base)
+  digit_worth d e = go (ltb (digit_of b) base) refl e
+    where
+      go : (t : Bool) → ltb (digit_of b) base ≡ t → Some d ≡ pick t (Some (digit_of b)) None → (d ≡ digit_of b) × (d < base)
+      go true f g = let h : d ≡ digit_of b = cc in (h, omega (arith, h, ltb-true (digit_of b) base f))
+      go false f g = let z : ◌≡◌ {A = ℕ} 0 1 = cc in absurd (omega arith)
 
-  pub digit-decimal : 48 ≤ b → b ≤ 57 → b - 48 ≡ digit_of b
-  digit-decimal h k = rw (le-leb 48 b h, le-leb b 57 k)
-
-  pub digit-between : 57 < b → b < 97 → 16 ≡ digit_of b
-  digit-between h k = rw (le-leb 48 b (omega arith), lt-leb b 57 h, lt-leb 97 b k)
-
-  pub digit_letter : 97 ≤ b → b ≤ 102 → b - 97 + 10 ≡ digit_of b
-  digit_letter h k =
-      let e : b - 97 + 10 ≡ b - 87 = omega arith in
-      rw (le-leb 48 b (omega arith), lt-leb b 57 (omega arith), le-leb 97 b h, le-leb b 102 k) e
-
-  pub digit-high : 102 < b → 16 ≡ digit_of b
-  digit-high h = rw (le-leb 48 b (omega arith), lt-leb b 57 (omega arith), le-leb 97 b (omega arith), lt-leb b 102 h)
+  pub digit_none : None ≡ digit_in base b → base ≤ digit_of b
+  digit_none e = go (ltb (digit_of b) base) refl e
+    where
+      go : (t : Bool) → ltb (digit_of b) base ≡ t → None ≡ pick t (Some (digit_of b)) None → base ≤ digit_of b
+      go true f g = let z : ◌≡◌ {A = ℕ} 0 1 = cc in absurd (omega arith)
+      go false f g = ltb-false (digit_of b) base f
 
 -- ---- a number, read from a place
-
--- a number of 32 bits times a base
-pub small : (v base : ℕ) → v < 2 ^ 32 → base ≤ 16 → v * base ≤ 4294967295 * 16
-small v base h k = let w : v ≤ 4294967295 = omega arith in mul-le-mul w k
 
 module _ (base : ℕ) (s : List ℕ) (i : ℕ) where
   pub value-more : (v d : ℕ) → i < length s → d ≡ digit_of (get_or s i 0) → d < base → (value_of base (further base v d) (drop (i + 1) s) ≡ value_of base v (drop i s)) × (i + 1 + digits base (drop (i + 1) s) ≡ i + digits base (drop i s))

@@ -1,6 +1,6 @@
 -- Numbers stored as bytes, one after the other; numbers stored as far as there is room.
 -- Assumes nothing.
-use Rattle.std.proofs.Common.{◌≡◌, ℕ, zero, suc, ◌+◌, ◌-◌, ◌%◌, ◌<◌, ◌≤◌, List, [], ◌∷◌, ◌++◌, length, get_or, take, set, replicate, sym, refl, ap, ◌∙◌, ap₂, append-nil, arith, length-append, length-take, length-take-le, take_all}
+use Rattle.std.proofs.Common.{◌≡◌, ℕ, zero, suc, ◌+◌, ◌-◌, ◌%◌, ◌<◌, ◌≤◌, List, [], ◌∷◌, ◌++◌, length, get_or, take, min, set, replicate, sym, refl, ap, ◌∙◌, ap₂, append-nil, arith, length-append, length-take, length-take-le, take_all}
 use native.Mathlib.Decide.{dec_lt}
 use lib.ListN.{length-replicate}
 use lib.Seq.{take-nil, take-append-le, take-append-add}
@@ -26,9 +26,13 @@ narrow-more d w i h k =
     let z : 0 + i ≡ i = omega arith in
     rw (z, get_or-bytes w i) at (copy_more d 0 (bytes_of w) 0 0 i (omega arith) (omega (arith, length-bytes w)))
 
--- no number is left
-pub narrow-all : (d w : List ℕ) (i : ℕ) → i ≤ length d → length w ≤ i → put d 0 (take i (bytes_of w)) ≡ put d 0 (take (length d) (bytes_of w))
-narrow-all d w i h k = ap (put d 0) (take_all i (bytes_of w) (omega (arith, length-bytes w)) ∙ sym (take_all (length d) (bytes_of w) (omega (arith, length-bytes w))))
+-- as many as there are and there is room for
+pub narrow-all : (d w : List ℕ) (i : ℕ) → i ≡ min (length w) (length d) → put d 0 (take i (bytes_of w)) ≡ put d 0 (take (length d) (bytes_of w))
+narrow-all d w i e = go (dec_lt i (length w))
+  where
+    go : Dec (i < length w) → put d 0 (take i (bytes_of w)) ≡ put d 0 (take (length d) (bytes_of w))
+    go (yes h) = ap (λ (k : ℕ). put d 0 (take k (bytes_of w))) (omega (arith, e, h))
+    go (no h) = ap (put d 0) (take_all i (bytes_of w) (omega (arith, length-bytes w)) ∙ sym (take_all (length d) (bytes_of w) (omega (arith, e, length-bytes w))))
 
 -- ---- numbers stored as far as there is room
 

@@ -6,7 +6,8 @@ ghost use Rattle.std.specs.Prelude.{◌≡◌, ◌+◌, ◌-◌, ◌≤◌, ◌+
 ghost use Rattle.buffer.specs.Run.{put};
 ghost use Rattle.choice.specs.Pick.{pick};
 ghost use Rattle.buffer.specs.Parts.{index_of};
-ghost use Rattle.replay.specs.Numbers.{digit_of, further, value_of, digits, between, value, listed, stored, count_after};
+ghost use Rattle.replay.specs.Numbers.{further, value_of, digits, between, value, listed, stored, count_after};
+ghost use Rattle.replay.specs.Bases.{base_of, digit_in};
 ghost use Rattle.replay.specs.Bytes.{bytes_of};
 
 use buffer::parts::part_end;
@@ -26,66 +27,74 @@ pub struct Stored {
     pub end: usize,
 }
 
-// The value of a digit; 16 for no digit.
-fn digit(b: u8) -> u32
-    ensures { result ≡ digit_of b }
-{
-    if b < b'0' {
-        return 16;
-    }
-    if b <= b'9' {
-        return (b - b'0') as u32;
-    }
-    if b < b'a' {
-        return 16;
-    }
-    if b <= b'f' {
-        return (b - b'a') as u32 + 10;
-    }
-    16
+// The base that the numbers of a list are written in.
+#[derive(Clone, Copy)]
+pub enum Base {
+    Ten,
+    Sixteen,
 }
 
-// A number with one digit more, modulo 2^32.
-fn further(base: u32, value: u32, d: u32) -> u32
-    requires { base ≤ 16 }
-    ensures { result ≡ further base value d }
-{
-    (((value as u64) * (base as u64) + (d as u64)) % 4294967296) as u32
+impl Base {
+    // How many digits it has.
+    fn value(self) -> u32
+        ensures { result ≡ base_of self }
+    {
+        match self {
+            Base::Ten => 10,
+            Base::Sixteen => 16,
+        }
+    }
+
+    // What a digit of this base is worth.
+    fn digit(self, b: u8) -> Option<u32>
+        ensures { result ≡ digit_in (base_of self) b }
+    {
+        match (self, b) {
+            (_, b'0'..=b'9') => Some((b - b'0') as u32),
+            (Base::Sixteen, b'a'..=b'f') => Some((b - b'a') as u32 + 10),
+            _ => None,
+        }
+    }
+
+    // A number with one digit more, modulo 2^32.
+    fn further(self, value: u32, d: u32) -> u32
+        ensures { result ≡ further (base_of self) value d }
+    {
+        (((value as u64) * (self.value() as u64) + (d as u64)) % 4294967296) as u32
+    }
 }
 
 // The number whose first digit was `first` and whose others start at `from`.
-fn number(s: &[u8], from: usize, base: u32, first: u32) -> Item
-    requires { (from ≤ length s.now) × (base ≤ 16) }
-    ensures { (result.value ≡ value_of base first (drop from s.now))
+fn number(s: &[u8], from: usize, base: Base, first: u32) -> Item
+    requires { from ≤ length s.now }
+    ensures { (result.value ≡ value_of (base_of base) first (drop from s.now))
         × (result.times ≡ 1)
-        × (result.end ≡ from + digits base (drop from s.now))
+        × (result.end ≡ from + digits (base_of base) (drop from s.now))
         × (result.end ≤ length s.now) }
 {
     let mut value = first;
-    let mut at = from;
-    while at < s.len() {
-        let d = digit(s[at]);
-        if base <= d {
+    for at in from..s.len() {
+        let Some(d) = base.digit(s[at]) else {
             return Item {
                 value,
                 times: 1,
                 end: at,
             };
-        }
-        value = further(base, value, d);
-        at += 1;
+        };
+        value = base.further(value, d);
     }
     Item {
         value,
         times: 1,
-        end: at,
+        end: s.len(),
     }
 }
 
 // A number with its `*count`, if it has one.
-fn repeated(s: &[u8], from: usize, base: u32, first: u32) -> Item
-    requires { (from ≤ length s.now) × (base ≤ 16) }
-    ensures { (listed base (value first) (drop from s.now) ≡ replicate result.times result.value ++ listed base between (drop result.end s.now))
+fn repeated(s: &[u8], from: usize, base: Base, first: u32) -> Item
+    requires { from ≤ length s.now }
+    ensures { (listed (base_of base) (value first) (drop from s.now)
+        ≡ replicate result.times result.value ++ listed (base_of base) between (drop result.end s.now))
         × (from ≤ result.end)
         × (result.end ≤ length s.now) }
 {
@@ -93,7 +102,7 @@ fn repeated(s: &[u8], from: usize, base: u32, first: u32) -> Item
     let end = one.end;
     if end < s.len() {
         if s[end] == b'*' {
-            let many = number(s, end + 1, 10, 0);
+            let many = number(s, end + 1, Base::Ten, 0);
             return Item {
                 value: one.value,
                 times: many.value,
@@ -120,17 +129,17 @@ fn store(out: &mut [u32], count: usize, times: usize, v: u32) -> usize
 }
 
 // Stores the numbers of a list, as far as there is room, and gives their count.
-fn store_list(s: &[u8], base: u32, out: &mut [u32]) -> usize
-    requires { base ≤ 16 }
-    ensures { (out.new ≡ stored out.old 0 (listed base between s.now))
-        × (result ≡ count_after out.old 0 (listed base between s.now)) }
+fn store_list(s: &[u8], base: Base, out: &mut [u32]) -> usize
+    ensures { (out.new ≡ stored out.old 0 (listed (base_of base) between s.now))
+        × (result ≡ count_after out.old 0 (listed (base_of base) between s.now)) }
 {
     let mut count = 0;
     let mut at = 0;
+    // kept: no index is counted, a step goes past a whole number with its count
     while at < s.len() {
-        let d = digit(s[at]);
+        let d = base.digit(s[at]);
         at += 1;
-        if d < base {
+        if let Some(d) = d {
             let it = repeated(s, at, base, d);
             count = store(out, count, it.times as usize, it.value);
             at = it.end;
@@ -140,11 +149,11 @@ fn store_list(s: &[u8], base: u32, out: &mut [u32]) -> usize
 }
 
 // Stores the list of numbers that starts at `from` and ends at a `|` or with the line.
-pub fn numbers(line: &[u8], from: usize, base: u32, out: &mut [u32]) -> Stored
-    requires { (from ≤ length line.now) × (base ≤ 16) }
+pub fn numbers(line: &[u8], from: usize, base: Base, out: &mut [u32]) -> Stored
+    requires { from ≤ length line.now }
     ensures { (result.end ≡ from + index_of 124 (drop from line.now))
-        × (out.new ≡ stored out.old 0 (listed base between (take (result.end - from) (drop from line.now))))
-        × (result.count ≡ count_after out.old 0 (listed base between (take (result.end - from) (drop from line.now))))
+        × (out.new ≡ stored out.old 0 (listed (base_of base) between (take (result.end - from) (drop from line.now))))
+        × (result.count ≡ count_after out.old 0 (listed (base_of base) between (take (result.end - from) (drop from line.now))))
         × (result.end ≤ length line.now)
         × (result.count ≤ length out.new) }
 {
@@ -165,12 +174,8 @@ pub fn past(line: &[u8], end: usize) -> usize
 pub fn narrow(wide: &[u32], bytes: &mut [u8])
     ensures { bytes.new ≡ put bytes.old 0 (take (length bytes.old) (bytes_of wide.now)) }
 {
-    let mut i = 0;
-    while i < bytes.len() {
-        if wide.len() <= i {
-            return;
-        }
+    // kept: of a zip over `iter_mut` no proof knows what was written
+    for i in 0..wide.len().min(bytes.len()) {
         bytes[i] = (wide[i] % 256) as u8;
-        i += 1;
     }
 }

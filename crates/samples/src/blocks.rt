@@ -43,7 +43,7 @@ fn closed(
     let suffixes = [none.0, none.0, close.0];
     let nests = [true, true, true];
     let block = Block {
-        body: body,
+        body,
         amount: Indent(4),
         way: 0,
     };
@@ -76,8 +76,7 @@ fn built(table: &mut [u32], text: &mut [u8], hard: bool) -> Made {
 fn sample<W: Write>(print: &mut W, hard: bool, width: u32) -> io::Result<()> {
     let mut table = [0u32; 1024];
     let mut text = [0u8; 64];
-    let made = built(&mut table, &mut text, hard);
-    let Ok((_, n)) = made else {
+    let Ok((_, n)) = built(&mut table, &mut text, hard) else {
         return print.write_all(b"refused\n");
     };
     let node = n.0 as usize;

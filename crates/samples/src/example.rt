@@ -22,10 +22,7 @@ pub fn example<W: Write>(print: &mut W) -> io::Result<()> {
     };
     let words = c.nodes as usize * 4;
     let bytes = c.bytes as usize;
-    if 64 < words {
-        return Ok(());
-    }
-    if 64 < bytes {
+    if 64 < words || 64 < bytes {
         return Ok(());
     }
     let mut out = [0u8; 64];

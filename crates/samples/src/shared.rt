@@ -15,20 +15,13 @@ const JOINS: usize = 1000;
 fn join(table: &mut [u32])
     requires { length table.old ≡ 4008 }
 {
-    let mut n = 1;
-    while n <= JOINS {
+    for n in 1..=JOINS {
         let at = n * 4;
         let before = (n - 1) as u32;
         table[at] = table::APPEND;
         table[at + 1] = before;
         table[at + 2] = before;
-        n += 1;
     }
-}
-
-// The reason in words.
-fn said(reason: Reason) -> bool {
-    matches!(reason, Reason::NothingLeft)
 }
 
 // Builds the table, asks and writes the answer.
@@ -40,11 +33,9 @@ pub fn shared<W: Write>(print: &mut W) -> io::Result<()> {
     let mut out = [0u8; 1];
     let mut events = [0u32; 3];
     let mut work = [0u32; 16384];
-    let Ok(reason) = why::why(&table, b"", 42, 1, 1, &mut out, &mut events, &mut work) else {
-        return Ok(());
-    };
-    if said(reason) {
-        return print.write_all(b"flat: nothing was left\n");
+    let answer = why::why(&table, b"", 42, 1, 1, &mut out, &mut events, &mut work);
+    if matches!(answer, Ok(Reason::NothingLeft)) {
+        print.write_all(b"flat: nothing was left\n")?;
     }
     Ok(())
 }

@@ -8,6 +8,7 @@ pub fn marked(events: &[u32], at: usize) -> bool
 {
     let mut open: usize = 0;
     let mut rest = events;
+    // kept: no index is counted; over `chunks_exact` the loop still ends early, and its proof has the list of chunks beside the events
     while let [offset, mark, _, others @ ..] = rest {
         if at < *offset as usize {
             return 0 < open;

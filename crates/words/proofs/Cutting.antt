@@ -1,16 +1,19 @@
 -- The laws of cutting a text into words.
---     blank_after, goes_on_lem, words-end, word_on, at-.., all-together     where words end that stay together
+--     place, Behind, Noted, blank-here, no-blank     the last blank, and one byte more
+--     goes_on_lem, words-end, word_on, at-blank, all-together     where words end that stay together
 --     words-next, no_words        the next word, and the last
 -- Assumes nothing.
 use Prim.Native.Nat.{ℕ, zero, suc, ◌+◌, ◌-◌, ◌≤◌, ◌<◌}
 use native.Mathlib.Omega.{arith}
 use mathlib.Core.Path.{◌≡◌, refl, sym, ap, ◌∙◌}
-use mathlib.Core.Bool.{Bool, true, false}
+use mathlib.Core.Bool.{true, false}
 use mathlib.Core.List.{List, [], ◌∷◌}
 use lib.ListN.{length, get_or, take, drop, length-drop}
 use lib.Seq.{drop-drop}
+use Rattle.std.specs.Prelude.{Option, Some, None}
+use Rattle.std.specs.Option.{unwrap_or}
 use lib.Dec.{eqb, ltb}
-use borrow.Author.Tests.{lt-ltb, le-ltb}
+use borrow.Author.Tests.{lt-ltb, eq-eqb, ne_eqb}
 use Rattle.choice.specs.Pick.{pick}
 use Rattle.buffer.specs.Parts.{goes_on, blanks, skipped}
 use Rattle.buffer.proofs.Reading.{more, done}
@@ -18,13 +21,30 @@ use Rattle.words.specs.Words.{ends, together_on, together, words_on}
 
 -- ---- words that stay together
 
--- the last blank is not past the place
-pub blank_after : (b i last : ℕ) → last ≤ i → pick (eqb b 32) i last ≤ i
-blank_after b i last h = go (eqb b 32)
-  where
-    go : (t : Bool) → pick t i last ≤ i
-    go true = omega arith
-    go false = h
+-- the last blank, 0 for none
+abbrev pub place : Option ℕ → ℕ
+place None = 0
+place (Some k) = k
+
+-- it lies behind the first byte and before a place
+abbrev pub Behind : ℕ → Option ℕ → Type 0
+Behind i None = Unit {0}
+Behind i (Some k) = (0 < k) × (k < i)
+
+pub behind-further : (i : ℕ) (blank : Option ℕ) → Behind i blank → Behind (i + 1) blank
+behind-further i None h = tt
+behind-further i (Some k) h = (h.0, omega (arith, h.1))
+
+-- the last blank after one byte more
+abbrev pub Noted : ℕ → ℕ → Option ℕ → Option ℕ → Type 0
+Noted b i last blank = (place blank ≡ pick (eqb b 32) i (place last)) × Behind (i + 1) blank
+
+module _ (b i : ℕ) (last blank : Option ℕ) where
+  pub blank-here : 0 < i → b ≡ 32 → blank ≡ Some i → Noted b i last blank
+  blank-here h e f = rw (f, eq-eqb b 32 e) (refl, (h, omega arith))
+
+  pub no-blank : Behind i last → (b ≡ 32 → ⊥) → blank ≡ last → Noted b i last blank
+  no-blank h n f = rw (f, ne_eqb b 32 n) (refl, behind-further i last h)
 
 module _ (most wide last : ℕ) (s : List ℕ) (i : ℕ) (h : i < length s) where
   pub goes_on_lem : goes_on (get_or s i 0) ≡ true → together_on most wide last i (drop i s) ≡ together_on most wide last (i + 1) (drop (i + 1) s)
@@ -41,11 +61,9 @@ module _ (most wide last : ℕ) (s : List ℕ) (i : ℕ) (h : i < length s) wher
     word_on e = rw (more s i h, starts, ← is, ← e)
 
 -- at the last blank if there is one, else here
-pub at-blank : (last i : ℕ) → 0 < last → last ≡ pick (ltb 0 last) last i
-at-blank last i h = rw (lt-ltb 0 last h)
-
-pub at_none : (last i : ℕ) → last ≤ 0 → i ≡ pick (ltb 0 last) last i
-at_none last i h = rw (le-ltb 0 last h)
+pub at-blank : (r i : ℕ) (blank : Option ℕ) → 0 < i → Behind (i + 1) blank → r ≡ unwrap_or blank i → (r ≡ pick (ltb 0 (place blank)) (place blank) i) × (0 < r) × (r ≤ i)
+at-blank r i None h b e = (e, omega (arith, e, h), omega (arith, e))
+at-blank r i (Some k) h b e = rw (lt-ltb 0 k b.0) (e, omega (arith, e, b.0), omega (arith, e, b.1))
 
 pub all-together : (most wide last : ℕ) (s : List ℕ) (i : ℕ) → length s ≤ i → together_on most wide last i (drop i s) ≡ i
 unfolding together_on

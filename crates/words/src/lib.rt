@@ -3,8 +3,7 @@
 
 #![tactic(auto)]
 
-ghost use Rattle.std.specs.Prelude.{◌≡◌, ◌<◌, ◌≤◌, length, eqb};
-ghost use Rattle.choice.specs.Pick.{pick};
+ghost use Rattle.std.specs.Prelude.{◌≡◌, ◌<◌, ◌≤◌, length};
 ghost use Rattle.table.specs.Document.{Doc};
 ghost use Rattle.build.specs.Documents.{append_doc};
 ghost use Rattle.words.specs.Words.{ends, together};
@@ -47,16 +46,6 @@ fn ends(wide: usize, b: u8, most: usize) -> bool
     (TOGETHER <= wide) & (b == b' ')
 }
 
-// The last blank, after one byte more.
-fn last_blank(last: usize, i: usize, b: u8) -> usize
-    ensures { result ≡ pick (eqb b 32) i last }
-{
-    if b == b' ' {
-        return i;
-    }
-    last
-}
-
 // Where the words end that stay together: at a blank once they have enough columns; else, before they have more than
 // `most`, at the last blank, so that a word is cut only if it has no room on a line of its own.
 fn together(s: &[u8], most: usize) -> usize
@@ -66,26 +55,22 @@ fn together(s: &[u8], most: usize) -> usize
         × (result ≤ length s.now) }
 {
     let mut wide: usize = 1;
-    let mut last = 0;
-    let mut i = 1;
-    while i < s.len() {
+    let mut blank = None;
+    for i in 1..s.len() {
         let b = s[i];
-        let starts = (b < 128) | (191 < b);
-        if !starts {
-            i += 1;
+        let goes_on = (128 <= b) & (b <= 191);
+        if goes_on {
             continue;
         }
-        last = last_blank(last, i, b);
+        if b == b' ' {
+            blank = Some(i);
+        }
         if ends(wide, b, most) {
-            if 0 < last {
-                return last;
-            }
-            return i;
+            return blank.unwrap_or(i);
         }
         wide += 1;
-        i += 1;
     }
-    i
+    s.len()
 }
 
 // A Text of these bytes, a column for each character.
@@ -141,6 +126,7 @@ pub fn filled(
     let mut n = shared.none;
     let mut between = n;
     let mut at = skip(s, 0);
+    // kept: no index is counted, a step goes past whole words and the blanks behind them
     while at < s.len() {
         let size = together(&s[at..], most);
         let end = at + size;

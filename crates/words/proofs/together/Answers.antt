@@ -1,74 +1,38 @@
 use native.Mathlib.Omega.{arith}
-use mathlib.Core.Path.{◌≡◌, refl, sym, ◌∙◌, ap}
-use mathlib.Core.Bool.{false, not}
+use mathlib.Core.Path.{sym, ◌∙◌}
 use lib.ListN.{get_or}
-use Rattle.buffer.specs.Parts.{goes_on}
-use Rattle.buffer.proofs.Reading.{starts_is}
-use Rattle.words.proofs.Cutting.{blank_after, goes_on_lem, words-end, word_on, all-together, at-blank, at_none}
+use Rattle.words.proofs.Cutting.{place, Noted, behind-further, blank-here, no-blank, goes_on_lem, words-end, word_on, at-blank, all-together}
+use Rattle.words.proofs.together.Goals.{then-b-eq32, else-b-eq32}
 use Rattle.words.proofs.together.Goals as goal
 
-pub loop-i-init : goal.loop-i-init
-loop-i-init c = (omega arith, omega arith, omega arith, omega arith, refl)
-
-pub loop-i-preserved-then-not-starts : goal.loop-i-preserved-then-not-starts
-loop-i-preserved-then-not-starts c =
+pub loop-i-preserved-then-goes_on : goal.loop-i-preserved-then-goes_on
+loop-i-preserved-then-goes_on c =
     let L = c.loop-i in
-    let s = c.args.s.now in
-    let most = c.args.most in
-    let b = get_or s L.i 0 in
-    (omega arith, omega arith, omega arith, omega arith, sym (goes_on_lem most L.wide L.last s L.i (omega arith) (starts_is b ∙ ap not c.if-not-starts.true)) ∙ L.invariant.4)
-
-pub last_blank-last-requires : goal.last_blank-last-requires
-last_blank-last-requires c = tt
-
-pub ends-requires : goal.ends-requires
-ends-requires c = tt
-
-pub returns-then-last-gt0 : goal.returns-then-last-gt0
-returns-then-last-gt0 c =
-    let L = c.loop-i in
-    let s = c.args.s.now in
-    let most = c.args.most in
-    let b = get_or s L.i 0 in
-    let g : goes_on b ≡ false = starts_is b ∙ ap not c.if-not-starts.false in
-    let last = blank_after b L.i L.last (omega arith) in (
-      at-blank _ L.i c.if-last-gt0.true
-          ∙ sym (words-end c.args.most L.wide L.last s L.i (omega arith) g c.last_blank-last.result c.last_blank-last.ensures (sym c.if-ends.true ∙ c.ends.ensures))
-          ∙ L.invariant.4,
-      omega arith,
-      omega (arith, last, c.last_blank-last.ensures),
-    )
+    (omega (arith, L.invariant.0), behind-further L.i L.blank L.invariant.1, sym (goes_on_lem c.args.most L.wide (place L.blank) c.args.s.now L.i c.loop-i-test.true c.if-goes_on.true) ∙ L.invariant.2)
 
 pub returns-then-ends : goal.returns-then-ends
 returns-then-ends c =
     let L = c.loop-i in
     let s = c.args.s.now in
-    let most = c.args.most in
     let b = get_or s L.i 0 in
-    let g : goes_on b ≡ false = starts_is b ∙ ap not c.if-not-starts.false in (
-      at_none _ L.i c.if-last-gt0.false
-          ∙ sym (words-end c.args.most L.wide L.last s L.i (omega arith) g c.last_blank-last.result c.last_blank-last.ensures (sym c.if-ends.true ∙ c.ends.ensures))
-          ∙ L.invariant.4,
-      omega arith,
-      omega arith,
-    )
+    let noted : Noted b L.i L.blank c.if-b-eq32.blank =
+    elim c.if-b-eq32.branch [ then-b-eq32 w ↦ blank-here b L.i L.blank c.if-b-eq32.blank (omega (arith, L.auto.i)) w.if-b-eq32.true w.blank-is | else-b-eq32 w ↦ no-blank b L.i L.blank c.if-b-eq32.blank L.invariant.1 w.if-b-eq32.false w.blank-is ] in
+    let e = words-end c.args.most L.wide (place L.blank) s L.i c.loop-i-test.true c.if-goes_on.false (place c.if-b-eq32.blank) noted.0 (sym c.if-ends.true ∙ c.ends.ensures) in
+    let r = at-blank _ L.i c.if-b-eq32.blank (omega (arith, L.auto.i)) noted.1 c.unwrap_or.ensures in
+    (r.0 ∙ sym e ∙ L.invariant.2, r.1, omega (arith, r.2, c.loop-i-test.true))
 
 pub loop-i-preserved : goal.loop-i-preserved
 loop-i-preserved c =
     let L = c.loop-i in
     let s = c.args.s.now in
-    let most = c.args.most in
     let b = get_or s L.i 0 in
-    let g : goes_on b ≡ false = starts_is b ∙ ap not c.if-not-starts.false in
-    let last = blank_after b L.i L.last (omega arith) in (
-      omega arith,
-      omega arith,
-      omega arith,
-      omega (arith, last, c.last_blank-last.ensures),
-      sym (word_on c.args.most L.wide L.last s L.i (omega arith) g c.last_blank-last.result c.last_blank-last.ensures (sym c.if-ends.false ∙ c.ends.ensures)) ∙ L.invariant.4,
-    )
+    let noted : Noted b L.i L.blank c.if-b-eq32.blank =
+    elim c.if-b-eq32.branch [ then-b-eq32 w ↦ blank-here b L.i L.blank c.if-b-eq32.blank (omega (arith, L.auto.i)) w.if-b-eq32.true w.blank-is | else-b-eq32 w ↦ no-blank b L.i L.blank c.if-b-eq32.blank L.invariant.1 w.if-b-eq32.false w.blank-is ] in
+    (omega (arith, L.invariant.0), noted.1, sym (word_on c.args.most L.wide (place L.blank) s L.i c.loop-i-test.true c.if-goes_on.false (place c.if-b-eq32.blank) noted.0 (sym c.if-ends.false ∙ c.ends.ensures)) ∙ L.invariant.2)
 
 pub returns : goal.returns
 returns c =
     let L = c.loop-i in
-    (sym (all-together c.args.most L.wide L.last c.args.s.now L.i (omega arith)) ∙ L.invariant.4, omega arith, omega arith)
+    let s = c.args.s.now in
+    let all = all-together c.args.most L.wide (place L.blank) s L.i c.loop-i-test.false in
+    (omega (arith, L.auto.i-end, c.requires, c.loop-i-test.false, all, L.invariant.2), c.requires, omega arith)

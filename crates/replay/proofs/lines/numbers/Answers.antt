@@ -6,11 +6,11 @@ use Rattle.replay.proofs.lines.numbers.Goals as goal
 
 pub slice_bounds-store_list-end : goal.slice_bounds-store_list-end
 slice_bounds-store_list-end c =
-    omega (arith, c.part_end-end.ensures, part-within c.args.line.now c.args.from 124 c.requires.0)
+    omega (arith, c.part_end-end.ensures, part-within c.args.line.now c.args.from 124 c.requires)
 
 pub returns : goal.returns
 returns c =
     let r = c.store_list-count.ensures in
     let end = c.part_end-end.ensures in
-    let within = part-within c.args.line.now c.args.from 124 c.requires.0 in
+    let within = part-within c.args.line.now c.args.from 124 c.requires in
     (end, r.0, r.1, omega (arith, end, within), count-within _ _ _ _ r.0 r.1)

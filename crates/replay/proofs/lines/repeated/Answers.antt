@@ -1,6 +1,7 @@
 -- `replay::lines::repeated` meets its contract: a number with its count, or one that no count or nothing follows. Assumes nothing.
 use Rattle.std.proofs.Common.{arith}
 use Rattle.replay.proofs.Listing.{number_last, number_alone, number-times, alone}
+use Rattle.replay.specs.Bases.{base_of}
 use Rattle.replay.proofs.lines.repeated.Goals as goal
 
 pub returns-then-s-end-eq42 : goal.returns-then-s-end-eq42
@@ -10,7 +11,7 @@ returns-then-s-end-eq42 c =
     let many = c.number-many in
     let m = many.ensures in (
       number-times
-          c.args.base
+          (base_of c.args.base)
           c.args.s.now
           c.args.from
           c.args.first
@@ -32,10 +33,10 @@ pub returns-else-s-end-eq42 : goal.returns-else-s-end-eq42
 returns-else-s-end-eq42 c =
     let one = c.number-one in
     let e = one.ensures in
-    (alone (number_alone c.args.base c.args.s.now c.args.from c.args.first one.result.value one.result.end e.0 e.2 c.if-end-s.true c.if-s-end-eq42.false) e.1, omega (arith, e.2), e.3)
+    (alone (number_alone (base_of c.args.base) c.args.s.now c.args.from c.args.first one.result.value one.result.end e.0 e.2 c.if-end-s.true c.if-s-end-eq42.false) e.1, omega (arith, e.2), e.3)
 
 pub returns-else-end-s : goal.returns-else-end-s
 returns-else-end-s c =
     let one = c.number-one in
     let e = one.ensures in
-    (alone (number_last c.args.base c.args.s.now c.args.from c.args.first one.result.value one.result.end e.0 e.2 c.if-end-s.false) e.1, omega (arith, e.2), e.3)
+    (alone (number_last (base_of c.args.base) c.args.s.now c.args.from c.args.first one.result.value one.result.end e.0 e.2 c.if-end-s.false) e.1, omega (arith, e.2), e.3)
