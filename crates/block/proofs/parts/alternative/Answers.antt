@@ -1,16 +1,8 @@
 -- `alternative`, part by part.
-use mathlib.Core.Path.{◌∙◌}
-use native.Mathlib.Omega.{arith}
-use Rattle.block.proofs.Splits.{front_length}
 use Rattle.block.proofs.Splits.{split_asks₁, split_stop₁, split-front, split_asks₂, split_stop₂, split_middle}
 use Rattle.block.proofs.Splits.{split_asks₃, split_stop₃, split-wrapped, split_asks₄, split_stop₄, split-back, split_last}
 use Rattle.build.proofs.Handed.{handed_on}
 use Rattle.block.proofs.parts.alternative.Goals as goal
-
-pub slice_bounds-head-end : goal.slice_bounds-head-end
-slice_bounds-head-end c =
-    let args = c.args in
-    front_length args.split args.affixes.prefixes.now c.requires.2
 
 pub head-requires : goal.head-requires
 head-requires c =
@@ -22,15 +14,6 @@ returns-in_err-c c =
     let args = c.args in
     rw (handed_on c.from_residual.result c.from_residual.ensures.1 c.in_err-c.was)
     (split_stop₁ c.requires.0 c.requires.1 args.affixes.nests.now args.split c.head.ensures c.in_err-c.was)
-
-pub slice_bounds-bare-end : goal.slice_bounds-bare-end
-slice_bounds-bare-end c =
-    let args = c.args in
-    front_length args.split args.affixes.prefixes.now c.requires.2
-
-pub offset_bounds-affixes-split : goal.offset_bounds-affixes-split
-offset_bounds-affixes-split c =
-    omega (arith, c.requires.2, c.args.affixes.behind, c.well_formed)
 
 pub core-requires : goal.core-requires
 core-requires c =
@@ -45,18 +28,6 @@ returns-in_err-c-2 c =
     rw (handed_on c.from_residual-in_err-c-2.result c.from_residual-in_err-c-2.ensures.1 c.in_err-c-2.was)
     (split_stop₂ c.requires.0 c.requires.1 args.affixes.nests.now args.split front c.bare-asked.ensures
     c.core.ensures c.in_err-c-2.was)
-
-pub offset_bounds-affixes-split-2 : goal.offset_bounds-affixes-split-2
-offset_bounds-affixes-split-2 c =
-    omega (arith, c.requires.2, c.well_formed)
-
-pub slice_bounds-wraps-count : goal.slice_bounds-wraps-count
-slice_bounds-wraps-count c =
-    c.requires.2
-
-pub slice_bounds-wraps-count-2 : goal.slice_bounds-wraps-count-2
-slice_bounds-wraps-count-2 c =
-    omega (arith, c.requires.2, c.args.affixes.flags)
 
 pub wraps-requires : goal.wraps-requires
 wraps-requires c =
@@ -77,11 +48,6 @@ returns-in_err-c-3 c =
     rw (handed_on c.from_residual-in_err-c-3.result c.from_residual-in_err-c-3.ensures.1 c.in_err-c-3.was)
     (split_stop₃ c.requires.0 c.requires.1 args.affixes.nests.now args.split middle c.wraps.ensures
     c.in_err-c-3.was)
-
-pub slice_bounds-tail-end : goal.slice_bounds-tail-end
-slice_bounds-tail-end c =
-    let args = c.args in
-    front_length args.split args.affixes.suffixes.now (omega (arith, c.requires.2, c.args.affixes.behind))
 
 pub tail-requires : goal.tail-requires
 tail-requires c =
@@ -106,14 +72,6 @@ returns-in_err-c-4 c =
     rw (handed_on c.from_residual-in_err-c-4.result c.from_residual-in_err-c-4.ensures.1 c.in_err-c-4.was)
     (split_stop₄ c.requires.0 c.requires.1 args.affixes.nests.now args.split wrapped c.tail.ensures
     c.in_err-c-4.was)
-
-pub shape_of-table : goal.shape_of-table
-shape_of-table c =
-    c.append.auto.table
-    ∙ c.tail.auto.table
-    ∙ c.wraps.auto.table
-    ∙ c.core.auto.table
-    ∙ c.head.auto.table
 
 pub returns : goal.returns
 returns c =
