@@ -1,15 +1,14 @@
 -- An alternative, part by part, as the proof of the code asks for them: head, core, wraps, tail, join.
---     front_length                   so many affixes before
 --     AtFront .. AtBack              where the code stands once Head, Core, the wraps and Tail are built
 --     split_asks₁ .. split_last      what each part asks; refused, or built; the join
 -- Assumes nothing.
-use Prim.Native.Nat.{ℕ, ◌-◌, ◌≤◌, ◌<◌}
+use Prim.Native.Nat.{ℕ, ◌-◌, ◌<◌}
 use native.Mathlib.Omega.{arith}
-use mathlib.Core.Path.{◌≡◌, refl, sym}
+use mathlib.Core.Path.{◌≡◌, refl}
 use mathlib.Core.Bool.{Bool, true}
 use mathlib.Core.List.{List}
 use lib.ListN.{length, take, drop, length-drop}
-use lib.Seq.{take_all, length-take-le}
+use lib.Seq.{take_all}
 use Rattle.table.specs.declared.NodeNo.{NodeNo}
 use Rattle.build.specs.declared.Counts.{Counts}
 use Rattle.build.specs.declared.Why.{Why}
@@ -40,9 +39,6 @@ rest k xs = take (length xs - k) (drop k xs)
 
 rest_all : {A : Type 0} (k : ℕ) (xs : List A) → rest k xs ≡ drop k xs
 rest_all k xs = take_all (length xs - k) (drop k xs) (rw (length-drop k xs) (omega arith))
-
-pub front_length : (split : ℕ) (xs : List ℕ) → split ≤ length xs → split ≡ length (take split xs)
-front_length split xs h = sym (length-take-le split xs h)
 
 -- ---- part by part
 

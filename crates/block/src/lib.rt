@@ -21,6 +21,7 @@ mod lists;
 mod parts;
 
 // What stands in a block, and by how much it is nested. Way 0 adds, 1 subtracts.
+// kept: `way` by number, as the constructors take it: any has an answer (`build::nest_right`), and C hands it on.
 #[derive(Clone, Copy)]
 pub struct Block {
     pub body: NodeNo,
@@ -58,9 +59,7 @@ fn unions(
     let mut n = n;
     for split in (1..=split).rev() {
         let (next, other) = alternative(c, table, text, block, shared, affixes, split)?;
-        let (next, both) = next.union(table, text, n, other)?;
-        c = next;
-        n = both;
+        (c, n) = next.union(table, text, n, other)?;
     }
     Ok((c, n))
 }

@@ -97,9 +97,7 @@ pub fn wraps(
     let mut c = c;
     let mut n = n;
     for (&prefix, &flag) in prefixes.iter().rev().zip(nests.iter().rev()) {
-        let (next, m) = wrap(c, table, text, block, n, NodeNo(prefix), flag)?;
-        c = next;
-        n = m;
+        (c, n) = wrap(c, table, text, block, n, NodeNo(prefix), flag)?;
     }
     Ok((c, n))
 }

@@ -1,6 +1,4 @@
 -- `layouts`, part by part.
-use mathlib.Core.Path.{◌∙◌}
-use native.Mathlib.Omega.{arith}
 use Rattle.block.proofs.Starts.{start_stop₁, start_stop₂, start_stop₃, start_asks₄, start_stop₄, start_asks₅, start_last}
 use Rattle.build.proofs.Handed.{handed_on}
 use Rattle.block.proofs.layouts.Goals as goal
@@ -34,24 +32,11 @@ returns-in_err-c-4 c =
     c.in_ok-c-2.was c.flat_alt.ensures c.in_ok-c-3.was c.alternative.ensures
     c.in_err-c-4.was)
 
-pub overflow_sub-all : goal.overflow_sub-all
-overflow_sub-all c =
-    let h = c.requires.1.some in
-    omega arith
-
 pub unions-requires : goal.unions-requires
 unions-requires c =
     start_asks₅ c.requires.0 c.requires.1 c.args.affixes.nests.now c.nil.ensures c.in_ok-c.was c.fail.ensures
     c.in_ok-c-2.was c.flat_alt.ensures c.in_ok-c-3.was c.alternative.ensures
     c.in_ok-c-4.was
-
-pub shape_of-table : goal.shape_of-table
-shape_of-table c =
-    c.unions.auto.table
-    ∙ c.alternative.auto.table
-    ∙ c.flat_alt.auto.table
-    ∙ c.fail.auto.table
-    ∙ c.nil.auto.table
 
 pub returns : goal.returns
 returns c =

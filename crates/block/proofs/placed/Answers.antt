@@ -1,12 +1,8 @@
 -- `placed`: built on a table of its own, then laid over the lent one.
 use native.Mathlib.Omega.{arith}
-use Rattle.block.proofs.Places.{own_ready, placed-stop, placed-short, placed_copies, placed_last}
+use Rattle.block.proofs.Places.{placed-stop, placed-short, placed_copies, placed_last}
 use Rattle.build.proofs.Handed.{handed_on}
 use Rattle.block.proofs.placed.Goals as goal
-
-pub layouts-requires : goal.layouts-requires
-layouts-requires c =
-    (own_ready c.requires.0 c.requires.1 c.args.affixes.nests.now c.requires.2 c.copy.ensures, c.requires.1)
 
 pub returns-in_err-d : goal.returns-in_err-d
 returns-in_err-d c =

@@ -20,18 +20,18 @@ returns-in_err-next c =
     (left_stop₁ c.requires.0 c.requires.1 args.affixes.nests.now args.n args.split (omega (arith, c.loop-split-test.true)) c.loop-split.invariant
     c.alternative.ensures c.in_err-next.was)
 
-pub returns-in_err-next-2 : goal.returns-in_err-next-2
-returns-in_err-next-2 c =
+pub returns-in_err-c : goal.returns-in_err-c
+returns-in_err-c c =
     let args = c.args in
-    rw (handed_on c.from_residual-in_err-next-2.result c.from_residual-in_err-next-2.ensures.1 c.in_err-next-2.was)
+    rw (handed_on c.from_residual-in_err-c.result c.from_residual-in_err-c.ensures.1 c.in_err-c.was)
     (left_stop₂ c.requires.0 c.requires.1 args.affixes.nests.now args.n args.split (omega (arith, c.loop-split-test.true)) c.loop-split.invariant
-    c.alternative.ensures c.in_ok-next.was c.union.ensures c.in_err-next-2.was)
+    c.alternative.ensures c.in_ok-next.was c.union.ensures c.in_err-c.was)
 
 pub loop-split-preserved : goal.loop-split-preserved
 loop-split-preserved c =
     let args = c.args in
     left-next c.requires.0 c.requires.1 args.affixes.nests.now args.n args.split (omega (arith, c.loop-split-test.true)) c.loop-split.invariant
-    c.alternative.ensures c.in_ok-next.was c.union.ensures c.in_ok-next-2.was
+    c.alternative.ensures c.in_ok-next.was c.union.ensures c.in_ok-c.was
 
 pub returns : goal.returns
 returns c =

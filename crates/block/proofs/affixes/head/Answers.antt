@@ -3,10 +3,6 @@ use Rattle.block.proofs.Groups.{head_stop₁, head_asks₂, head_stop₂, head_l
 use Rattle.build.proofs.Handed.{handed_on}
 use Rattle.block.proofs.affixes.head.Goals as goal
 
-pub list-requires : goal.list-requires
-list-requires c =
-    (c.requires.0, c.requires.1.none, c.requires.2)
-
 pub returns-in_err-c : goal.returns-in_err-c
 returns-in_err-c c =
     let args = c.args in

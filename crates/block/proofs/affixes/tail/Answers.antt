@@ -3,10 +3,6 @@ use Rattle.block.proofs.Groups.{tail_stop₁, tail_stop₂, tail_last}
 use Rattle.build.proofs.Handed.{handed_on}
 use Rattle.block.proofs.affixes.tail.Goals as goal
 
-pub list-requires : goal.list-requires
-list-requires c =
-    (c.requires.0, c.requires.1.none, c.requires.3)
-
 pub returns-in_err-c : goal.returns-in_err-c
 returns-in_err-c c =
     let args = c.args in

@@ -1,130 +1,72 @@
--- `alternative`, part by part.
-use mathlib.Core.Path.{◌∙◌}
-use native.Mathlib.Omega.{arith}
-use Rattle.block.proofs.Splits.{front_length}
+-- `alternative`, part by part: where the code stands once Head, Core, the wraps and Tail are built, then what each asks and leaves.
+use Rattle.block.proofs.Splits.{AtFront, AtMiddle, AtWrapped, AtBack}
 use Rattle.block.proofs.Splits.{split_asks₁, split_stop₁, split-front, split_asks₂, split_stop₂, split_middle}
 use Rattle.block.proofs.Splits.{split_asks₃, split_stop₃, split-wrapped, split_asks₄, split_stop₄, split-back, split_last}
 use Rattle.build.proofs.Handed.{handed_on}
+use Rattle.block.proofs.parts.alternative.Goals.{In_ok-c, In_ok-c-2, In_ok-c-3, In_ok-c-4}
 use Rattle.block.proofs.parts.alternative.Goals as goal
 
-pub slice_bounds-head-end : goal.slice_bounds-head-end
-slice_bounds-head-end c =
-    let args = c.args in
-    front_length args.split args.affixes.prefixes.now c.requires.2
+abbrev front : (c : In_ok-c) → AtFront c.requires.0 c.requires.1 c.args.affixes.nests.now c.args.split
+front c = split-front c.requires.0 c.requires.1 c.args.affixes.nests.now c.args.split c.head.ensures c.in_ok-c.was
+
+abbrev middle : (c : In_ok-c-2) → AtMiddle c.requires.0 c.requires.1 c.args.affixes.nests.now c.args.split
+middle c =
+    let f = split-front c.requires.0 c.requires.1 c.args.affixes.nests.now c.args.split c.head.ensures c.in_ok-c.was in
+    split_middle c.requires.0 c.requires.1 c.args.affixes.nests.now c.args.split f c.bare-asked.ensures c.core.ensures c.in_ok-c-2.was
+
+abbrev wrapped : (c : In_ok-c-3) → AtWrapped c.requires.0 c.requires.1 c.args.affixes.nests.now c.args.split
+wrapped c =
+    let f = split-front c.requires.0 c.requires.1 c.args.affixes.nests.now c.args.split c.head.ensures c.in_ok-c.was in
+    let m = split_middle c.requires.0 c.requires.1 c.args.affixes.nests.now c.args.split f c.bare-asked.ensures c.core.ensures c.in_ok-c-2.was in
+    split-wrapped c.requires.0 c.requires.1 c.args.affixes.nests.now c.args.split m c.wraps.ensures c.in_ok-c-3.was
+
+abbrev back : (c : In_ok-c-4) → AtBack c.requires.0 c.requires.1 c.args.affixes.nests.now c.args.split
+back c =
+    let f = split-front c.requires.0 c.requires.1 c.args.affixes.nests.now c.args.split c.head.ensures c.in_ok-c.was in
+    let m = split_middle c.requires.0 c.requires.1 c.args.affixes.nests.now c.args.split f c.bare-asked.ensures c.core.ensures c.in_ok-c-2.was in
+    let w = split-wrapped c.requires.0 c.requires.1 c.args.affixes.nests.now c.args.split m c.wraps.ensures c.in_ok-c-3.was in
+    split-back c.requires.0 c.requires.1 c.args.affixes.nests.now c.args.split w c.tail.ensures c.in_ok-c-4.was
 
 pub head-requires : goal.head-requires
 head-requires c =
-    let args = c.args in
-    split_asks₁ c.requires.0 c.requires.1 args.affixes.nests.now args.split
+    split_asks₁ c.requires.0 c.requires.1 c.args.affixes.nests.now c.args.split
 
 pub returns-in_err-c : goal.returns-in_err-c
 returns-in_err-c c =
-    let args = c.args in
     rw (handed_on c.from_residual.result c.from_residual.ensures.1 c.in_err-c.was)
-    (split_stop₁ c.requires.0 c.requires.1 args.affixes.nests.now args.split c.head.ensures c.in_err-c.was)
-
-pub slice_bounds-bare-end : goal.slice_bounds-bare-end
-slice_bounds-bare-end c =
-    let args = c.args in
-    front_length args.split args.affixes.prefixes.now c.requires.2
-
-pub offset_bounds-affixes-split : goal.offset_bounds-affixes-split
-offset_bounds-affixes-split c =
-    omega (arith, c.requires.2, c.args.affixes.behind, c.well_formed)
+    (split_stop₁ c.requires.0 c.requires.1 c.args.affixes.nests.now c.args.split c.head.ensures c.in_err-c.was)
 
 pub core-requires : goal.core-requires
 core-requires c =
-    let front = split-front c.requires.0 c.requires.1 c.args.affixes.nests.now c.args.split c.head.ensures c.in_ok-c.was in
-    let args = c.args in
-    split_asks₂ c.requires.0 c.requires.1 args.affixes.nests.now args.split front
+    split_asks₂ c.requires.0 c.requires.1 c.args.affixes.nests.now c.args.split (front (goal.at.core-requires c).In_ok-c)
 
 pub returns-in_err-c-2 : goal.returns-in_err-c-2
 returns-in_err-c-2 c =
-    let front = split-front c.requires.0 c.requires.1 c.args.affixes.nests.now c.args.split c.head.ensures c.in_ok-c.was in
-    let args = c.args in
     rw (handed_on c.from_residual-in_err-c-2.result c.from_residual-in_err-c-2.ensures.1 c.in_err-c-2.was)
-    (split_stop₂ c.requires.0 c.requires.1 args.affixes.nests.now args.split front c.bare-asked.ensures
+    (split_stop₂ c.requires.0 c.requires.1 c.args.affixes.nests.now c.args.split (front (goal.at.returns-in_err-c-2 c).In_ok-c) c.bare-asked.ensures
     c.core.ensures c.in_err-c-2.was)
-
-pub offset_bounds-affixes-split-2 : goal.offset_bounds-affixes-split-2
-offset_bounds-affixes-split-2 c =
-    omega (arith, c.requires.2, c.well_formed)
-
-pub slice_bounds-wraps-count : goal.slice_bounds-wraps-count
-slice_bounds-wraps-count c =
-    c.requires.2
-
-pub slice_bounds-wraps-count-2 : goal.slice_bounds-wraps-count-2
-slice_bounds-wraps-count-2 c =
-    omega (arith, c.requires.2, c.args.affixes.flags)
 
 pub wraps-requires : goal.wraps-requires
 wraps-requires c =
-    let front = split-front c.requires.0 c.requires.1 c.args.affixes.nests.now c.args.split c.head.ensures c.in_ok-c.was in
-    let middle =
-    split_middle c.requires.0 c.requires.1 c.args.affixes.nests.now c.args.split front c.bare-asked.ensures c.core.ensures
-    c.in_ok-c-2.was in
-    let args = c.args in
-    split_asks₃ c.requires.0 c.requires.1 args.affixes.nests.now args.split middle c.args.affixes.flags
+    split_asks₃ c.requires.0 c.requires.1 c.args.affixes.nests.now c.args.split (middle (goal.at.wraps-requires c).In_ok-c-2) c.args.affixes.flags
 
 pub returns-in_err-c-3 : goal.returns-in_err-c-3
 returns-in_err-c-3 c =
-    let front = split-front c.requires.0 c.requires.1 c.args.affixes.nests.now c.args.split c.head.ensures c.in_ok-c.was in
-    let middle =
-    split_middle c.requires.0 c.requires.1 c.args.affixes.nests.now c.args.split front c.bare-asked.ensures c.core.ensures
-    c.in_ok-c-2.was in
-    let args = c.args in
     rw (handed_on c.from_residual-in_err-c-3.result c.from_residual-in_err-c-3.ensures.1 c.in_err-c-3.was)
-    (split_stop₃ c.requires.0 c.requires.1 args.affixes.nests.now args.split middle c.wraps.ensures
+    (split_stop₃ c.requires.0 c.requires.1 c.args.affixes.nests.now c.args.split (middle (goal.at.returns-in_err-c-3 c).In_ok-c-2) c.wraps.ensures
     c.in_err-c-3.was)
-
-pub slice_bounds-tail-end : goal.slice_bounds-tail-end
-slice_bounds-tail-end c =
-    let args = c.args in
-    front_length args.split args.affixes.suffixes.now (omega (arith, c.requires.2, c.args.affixes.behind))
 
 pub tail-requires : goal.tail-requires
 tail-requires c =
-    let front = split-front c.requires.0 c.requires.1 c.args.affixes.nests.now c.args.split c.head.ensures c.in_ok-c.was in
-    let middle =
-    split_middle c.requires.0 c.requires.1 c.args.affixes.nests.now c.args.split front c.bare-asked.ensures c.core.ensures
-    c.in_ok-c-2.was in
-    let wrapped =
-    split-wrapped c.requires.0 c.requires.1 c.args.affixes.nests.now c.args.split middle c.wraps.ensures c.in_ok-c-3.was in
-    let args = c.args in
-    split_asks₄ c.requires.0 c.requires.1 args.affixes.nests.now args.split wrapped
+    split_asks₄ c.requires.0 c.requires.1 c.args.affixes.nests.now c.args.split (wrapped (goal.at.tail-requires c).In_ok-c-3)
 
 pub returns-in_err-c-4 : goal.returns-in_err-c-4
 returns-in_err-c-4 c =
-    let front = split-front c.requires.0 c.requires.1 c.args.affixes.nests.now c.args.split c.head.ensures c.in_ok-c.was in
-    let middle =
-    split_middle c.requires.0 c.requires.1 c.args.affixes.nests.now c.args.split front c.bare-asked.ensures c.core.ensures
-    c.in_ok-c-2.was in
-    let wrapped =
-    split-wrapped c.requires.0 c.requires.1 c.args.affixes.nests.now c.args.split middle c.wraps.ensures c.in_ok-c-3.was in
-    let args = c.args in
     rw (handed_on c.from_residual-in_err-c-4.result c.from_residual-in_err-c-4.ensures.1 c.in_err-c-4.was)
-    (split_stop₄ c.requires.0 c.requires.1 args.affixes.nests.now args.split wrapped c.tail.ensures
+    (split_stop₄ c.requires.0 c.requires.1 c.args.affixes.nests.now c.args.split (wrapped (goal.at.returns-in_err-c-4 c).In_ok-c-3) c.tail.ensures
     c.in_err-c-4.was)
-
-pub shape_of-table : goal.shape_of-table
-shape_of-table c =
-    c.append.auto.table
-    ∙ c.tail.auto.table
-    ∙ c.wraps.auto.table
-    ∙ c.core.auto.table
-    ∙ c.head.auto.table
 
 pub returns : goal.returns
 returns c =
-    let front = split-front c.requires.0 c.requires.1 c.args.affixes.nests.now c.args.split c.head.ensures c.in_ok-c.was in
-    let middle =
-    split_middle c.requires.0 c.requires.1 c.args.affixes.nests.now c.args.split front c.bare-asked.ensures c.core.ensures
-    c.in_ok-c-2.was in
-    let wrapped =
-    split-wrapped c.requires.0 c.requires.1 c.args.affixes.nests.now c.args.split middle c.wraps.ensures c.in_ok-c-3.was in
-    let back =
-    split-back c.requires.0 c.requires.1 c.args.affixes.nests.now c.args.split wrapped c.tail.ensures c.in_ok-c-4.was in
-    let args = c.args in
-    split_last c.requires.0 c.requires.1 args.affixes.nests.now args.split front back
-    c.append.ensures
+    let at = goal.at.returns c in
+    split_last c.requires.0 c.requires.1 c.args.affixes.nests.now c.args.split (front at.In_ok-c) (back at.In_ok-c-4) c.append.ensures

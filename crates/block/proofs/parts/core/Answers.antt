@@ -1,12 +1,7 @@
 -- `core`, part by part.
-use mathlib.Core.Path.{◌∙◌}
 use Rattle.block.proofs.Steps.{core_stop₁, core_asks₂, core_stop₂, core_asks₃, core_stop₃, core_last}
 use Rattle.build.proofs.Handed.{handed_on}
 use Rattle.block.proofs.parts.core.Goals as goal
-
-pub guarded-requires : goal.guarded-requires
-guarded-requires c =
-    (c.requires.0, c.requires.2, c.requires.1.body)
 
 pub returns-in_err-c : goal.returns-in_err-c
 returns-in_err-c c =
@@ -41,10 +36,6 @@ returns-in_err-c-3 c =
     (core_stop₃ c.requires.0 c.requires.1 c.requires.2 args.asked args.after.now c.requires.3 c.guarded.ensures
     c.in_ok-c.was c.nested.ensures c.in_ok-c-2.was c.list.ensures
     c.in_err-c-3.was)
-
-pub shape_of-table : goal.shape_of-table
-shape_of-table c =
-    c.append.auto.table ∙ c.list.auto.table ∙ c.nested.auto.table ∙ c.guarded.auto.table
 
 pub returns : goal.returns
 returns c =

@@ -35,13 +35,13 @@ wrap-requires c =
     let turn = this-turn (goal.at.wrap-requires c).In-Some in
     wrap_asks c.requires.0 c.requires.1 args.n c.requires.2 args.prefixes.now args.nests.now c.requires.3 c.requires.4 turn.0 L.invariant turn.1 turn.2
 
-pub returns-in_err-next : goal.returns-in_err-next
-returns-in_err-next c =
+pub returns-in_err-c : goal.returns-in_err-c
+returns-in_err-c c =
     let args = c.args in
     let L = c.loop-prefix in
-    let turn = this-turn (goal.at.returns-in_err-next c).In-Some in
-    rw (handed_on c.from_residual.result c.from_residual.ensures.1 c.in_err-next.was)
-    (wrap-stop c.requires.0 c.requires.1 args.n c.requires.2 args.prefixes.now args.nests.now c.requires.3 c.requires.4 turn.0 L.invariant turn.1 turn.2 c.wrap.ensures c.in_err-next.was)
+    let turn = this-turn (goal.at.returns-in_err-c c).In-Some in
+    rw (handed_on c.from_residual.result c.from_residual.ensures.1 c.in_err-c.was)
+    (wrap-stop c.requires.0 c.requires.1 args.n c.requires.2 args.prefixes.now args.nests.now c.requires.3 c.requires.4 turn.0 L.invariant turn.1 turn.2 c.wrap.ensures c.in_err-c.was)
 
 pub loop-prefix-preserved : goal.loop-prefix-preserved
 loop-prefix-preserved c =
@@ -49,7 +49,7 @@ loop-prefix-preserved c =
     let L = c.loop-prefix in
     let turn = this-turn (goal.at.loop-prefix-preserved c).In-Some in
     rw (one_more (length args.prefixes.now) L.yielded (c.in-Some.field-0-0, c.in-Some.field-0-1))
-    (wrap-next c.requires.0 c.requires.1 args.n c.requires.2 args.prefixes.now args.nests.now c.requires.3 c.requires.4 turn.0 L.invariant turn.1 turn.2 c.wrap.ensures c.in_ok-next.was)
+    (wrap-next c.requires.0 c.requires.1 args.n c.requires.2 args.prefixes.now args.nests.now c.requires.3 c.requires.4 turn.0 L.invariant turn.1 turn.2 c.wrap.ensures c.in_ok-c.was)
 
 pub returns : goal.returns
 returns c =
