@@ -3,7 +3,7 @@
 // nodes of the table: a node that is shared is never read twice on the way.
 //
 // A summary is one word: 0 where no Text is passed; one more than the columns of the Texts passed; NEVER where the walk doesn't come through.
-// kept: a word, not an enum, for speed: why for a Group over 1,000 joins takes 74,000 instructions a call, with an enum 133,000 (callgrind).
+// kept: a word, for speed: why for a Group over 1,000 joins takes 74,000 instructions a call, with an enum 133,000 (callgrind).
 // Nothing here is an entry point of the library: each function says what it asks of its caller.
 
 #![tactic(auto)]
@@ -97,6 +97,8 @@ fn node_summary(table: &[u32], memo: &[u32], node: u32, flat: bool) -> u32
 }
 
 // The summaries of all nodes, from node 0 up, two words each: broken, then flat.
+// Not inlined, as first_reason isn't: within why their pointers lie on the stack, 74,000 instructions a call in place of 70,000.
+#[inline(never)]
 pub fn summarize(table: &[u32], memo: &mut [u32])
     requires { Room table.now memo.old (length table.now / 4) }
     ensures { Summarized table.now memo.old (length table.now / 4) memo.new }
@@ -158,6 +160,7 @@ fn step_down(
 }
 
 // Where the walk down a node leads, read flat or broken from a column: through it, to a column; or to a reason.
+#[inline(never)]
 pub fn first_reason(
     table: &[u32],
     memo: &[u32],
