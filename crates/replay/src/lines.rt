@@ -60,7 +60,7 @@ impl Base {
     fn further(self, value: u32, d: u32) -> u32
         ensures { result ≡ further (base_of self) value d }
     {
-        (((value as u64) * (self.value() as u64) + (d as u64)) % 4294967296) as u32
+        value.wrapping_mul(self.value()).wrapping_add(d)
     }
 }
 

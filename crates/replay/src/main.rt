@@ -56,9 +56,7 @@ fn replay_runs<W: Write>(print: &mut W, input: &[u8]) -> io::Result<()> {
 // Replays both lists.
 fn replay<W: Write>(print: &mut W, input: &[u8]) -> io::Result<()> {
     let bar = part_end(input, 0, b'%');
-    let tally = replay_cases(print, front(input, bar))?;
-    let cases = tally.cases;
-    let wrong = tally.wrong;
+    let Tally { cases, wrong } = replay_cases(print, front(input, bar))?;
     writeln!(print, "{cases} cases, {wrong} wrong")?;
     replay_runs(print, behind(input, bar))
 }

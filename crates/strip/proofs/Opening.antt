@@ -1,16 +1,19 @@
--- The laws of events read one after the other, over plain lists: an event past the place, one that opens, one that closes, and the end.
+-- The laws of events read one after the other, over plain lists: an event past the place, one that opens or closes, the end; the same of events
+-- taken by threes.
 -- Assumes nothing.
-use Prim.Native.Nat.{ℕ, ◌+◌, ◌-◌, ◌≤◌, ◌<◌}
+use Prim.Native.Nat.{ℕ, zero, suc, ◌+◌, ◌-◌, ◌*◌, ◌/◌, ◌≤◌, ◌<◌}
 use native.Mathlib.Omega.{arith}
-use mathlib.Core.Path.{◌≡◌, refl, sym, ap, ap₂, ◌∙◌}
+use mathlib.Core.Path.{◌≡◌, refl, sym, ap, ◌∙◌}
 use mathlib.Core.List.{List, [], ◌∷◌}
 use lib.ListN.{length, get_or, drop, length-drop}
+use lib.Seq.{drop-drop, get_or-take}
+use Rattle.std.specs.Simd.{first_chunks}
 use lib.Dec.{eqb}
 use borrow.Author.Tests.{lt-ltb, le-ltb, eq-eqb, ne_eqb}
 use Rattle.choice.specs.Pick.{pick}
 use Rattle.strip.specs.Marks.{open_at}
 
-pub past : (n at : ℕ) (rest : List ℕ) → 3 ≤ length rest → at < get_or rest 0 0 → open_at n rest at ≡ n
+past : (n at : ℕ) (rest : List ℕ) → 3 ≤ length rest → at < get_or rest 0 0 → open_at n rest at ≡ n
 unfolding open_at
 past n at [] h l = absurd (omega arith)
 past n at (a ∷ []) h l = absurd (omega arith)
@@ -24,24 +27,13 @@ next-mark n at (a ∷ []) h l = absurd (omega arith)
 next-mark n at (a ∷ b ∷ []) h l = absurd (omega arith)
 next-mark n at (a ∷ b ∷ c ∷ rest) h l = rw (le-ltb at a l)
 
--- what is left after so many marks are open, of all events
-abbrev pub Left : List ℕ → ℕ → ℕ → List ℕ → Type 0
-Left events at n rest = (n + length rest ≤ length events) × (open_at n rest at ≡ open_at 0 events at)
-
-module _ (events rest others : List ℕ) (n at : ℕ) (h : 3 ≤ length rest) (l : get_or rest 0 0 ≤ at) (is : others ≡ drop 3 rest) (before : Left events at n rest) where
-  fewer : length others + 3 ≡ length rest
-  fewer = omega (arith, ap length is, length-drop 3 rest)
-
-  pub opens : get_or rest 1 0 ≡ 1 → Left events at (n + 1) others
-  opens e = (
-    omega (arith, fewer, before.0),
-    ap (λ (s : List ℕ). open_at (n + 1) s at) is ∙ sym (next-mark n at rest h l ∙ rw (eq-eqb (get_or rest 1 0) 1 e)) ∙ before.1,
-  )
-
-  pub closes : (get_or rest 1 0 ≡ 1 → ⊥) → (m : ℕ) → m ≡ n - 1 → Left events at m others
-  closes e m f =
-      let left : open_at m others at ≡ open_at (n - 1) (drop 3 rest) at = ap₂ (λ (k : ℕ) (s : List ℕ). open_at k s at) f is in
-      (omega (arith, fewer, before.0), left ∙ sym (next-mark n at rest h l ∙ rw (ne_eqb (get_or rest 1 0) 1 e)) ∙ before.1)
+-- a word of an event, in the events taken by threes
+event-word : (k : ℕ) (events : List ℕ) (i j : ℕ) → i < k → j < 3 → get_or (get_or (first_chunks 3 k events) i []) j 0 ≡ get_or (drop (i * 3) events) j 0
+event-word zero events i j h l = absurd (omega arith)
+event-word (suc k) events zero j h l = get_or-take 3 events j 0 l
+event-word (suc k) events (suc i) j h l =
+    let on : suc i * 3 ≡ 3 + i * 3 = omega arith in
+    event-word k (drop 3 events) i j (omega arith) l ∙ ap (λ (s : List ℕ). get_or s j 0) (drop-drop (i * 3) 3 events ∙ ap (λ (m : ℕ). drop m events) (sym on))
 
 pub no-mark : (n at : ℕ) (rest : List ℕ) → length rest < 3 → open_at n rest at ≡ n
 unfolding open_at
@@ -49,3 +41,34 @@ no-mark n at [] h = refl
 no-mark n at (a ∷ []) h = refl
 no-mark n at (a ∷ b ∷ []) h = refl
 no-mark n at (a ∷ b ∷ c ∷ rest) h = absurd (omega arith)
+
+-- an event, of those taken by threes
+module _ (events : List ℕ) (n at i : ℕ) (records : List (List ℕ)) (is : records ≡ first_chunks 3 (length events / 3) events) (some : i < length events / 3) where
+  abbrev rest : List ℕ
+  rest = drop (i * 3) events
+
+  word : (j : ℕ) → j < 3 → get_or (get_or records i []) j 0 ≡ get_or rest j 0
+  word j l = ap (λ (r : List (List ℕ)). get_or (get_or r i []) j 0) is ∙ event-word (length events / 3) events i j some l
+
+  there : 3 ≤ length rest
+  there = simp length-drop (omega arith)
+
+  offset : get_or (get_or records i []) 0 0 ≡ get_or rest 0 0
+  offset = word 0 (omega arith)
+
+  mark : get_or (get_or records i []) 1 0 ≡ get_or rest 1 0
+  mark = word 1 (omega arith)
+
+  pub later : at < get_or (get_or records i []) 0 0 → open_at n rest at ≡ n
+  later l = past n at rest there (omega (arith, l, offset))
+
+  module _ (reached : get_or (get_or records i []) 0 0 ≤ at) where
+    onward : open_at n rest at ≡ open_at (pick (eqb (get_or rest 1 0) 1) (n + 1) (n - 1)) (drop ((i + 1) * 3) events) at
+    onward =
+        next-mark n at rest there (omega (arith, reached, offset)) ∙ ap (λ (s : List ℕ). open_at (pick (eqb (get_or rest 1 0) 1) (n + 1) (n - 1)) s at) (drop-drop 3 (i * 3) events ∙ ap (λ (m : ℕ). drop m events) (omega arith))
+
+    pub opens : get_or (get_or records i []) 1 0 ≡ 1 → open_at (n + 1) (drop ((i + 1) * 3) events) at ≡ open_at n rest at
+    opens e = sym (rw (eq-eqb (get_or rest 1 0) 1 (sym mark ∙ e)) at onward)
+
+    pub closes : (get_or (get_or records i []) 1 0 ≡ 1 → ⊥) → open_at (n - 1) (drop ((i + 1) * 3) events) at ≡ open_at n rest at
+    closes e = sym (rw (ne_eqb (get_or rest 1 0) 1 (λ f. e (mark ∙ f))) at onward)

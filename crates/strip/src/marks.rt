@@ -7,18 +7,15 @@ pub fn marked(events: &[u32], at: usize) -> bool
     ensures { result ≡ marked_at events.now at }
 {
     let mut open: usize = 0;
-    let mut rest = events;
-    // kept: no index is counted; over `chunks_exact` the loop still ends early, and its proof has the list of chunks beside the events
-    while let [offset, mark, _, others @ ..] = rest {
+    for [offset, mark, _] in events.as_chunks::<3>().0 {
         if at < *offset as usize {
-            return 0 < open;
+            break;
         }
         if *mark == 1 {
             open += 1;
         } else {
             open = open.saturating_sub(1);
         }
-        rest = others;
     }
     0 < open
 }
