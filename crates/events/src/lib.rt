@@ -15,6 +15,7 @@ use layout::{Laid, Refused, Report};
 use rules::EVENT_WORDS;
 use table::{NodeNo, Refusal};
 
+// kept: the mark is a number, as C reads it.
 #[repr(C)]
 #[derive(Clone, Copy)]
 pub struct Event {

@@ -110,6 +110,7 @@ fn groups_down(table: &[u32], node: NodeNo, steps: u32) -> u32
 
 // A node, flat; when that is done the waiting nodes in order, all read as broken. Nothing left says flat; or the node that is due when no step
 // is left.
+// kept: two loops left by label that yield yes or no: document 01 names the form.
 fn walked(
     table: &[u32],
     work: &mut [u32],

@@ -51,6 +51,7 @@ fn comma(c: Counts, table: &mut [u32], text: &mut [u8], softline: NodeNo) -> Mad
 }
 
 // The notes out of tolerance, the comma between them; of none the shared Nil.
+// kept: no index is counted; where to go on comes out of what was found.
 fn notes(
     c: Counts,
     table: &mut [u32],

@@ -52,6 +52,7 @@ impl From<Fault> for Refused {
 }
 
 // The same in document 01's numbers: the answer and its place, the steps, and how many bytes and events are used.
+// kept: numbers, since C is told these five words.
 #[derive(Clone, Copy)]
 pub struct Report {
     pub answer: u32,

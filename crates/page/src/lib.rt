@@ -68,6 +68,7 @@ pub fn feed_line(out: &mut [u8], page: Page, indent: Indent) -> Option<Page>
 }
 
 // One event more, open (1) or close (0) with a label, its offset the number of bytes before it; or there is no room for it.
+// kept: the mark is the event's second word, a number as C reads it.
 pub fn note_event(events: &mut [u32], page: Page, mark: u32, label: u32) -> Option<Page>
     requires { (page.events * event_words ≤ length events.old) × (length events.old / event_words ≤ 4096) × (page.used ≤ 65536) }
     ensures { Noted page events.old result events.new (marked mark label) }

@@ -25,6 +25,7 @@ pub fn fill(table: &[u32], work: &mut [u32])
 }
 
 // The waiting nodes in order, all read broken; nothing left ends flat.
+// kept: no index is counted; which entry is next comes out of the search.
 fn after(table: &[u32], work: &[u32], depth: usize, column: Column, width: u32) -> Reason
     requires { Met table.now work.now depth column.0 width (length table.now / 4) }
     ensures { After table.now work.now depth column.0 width result }

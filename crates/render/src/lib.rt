@@ -120,6 +120,7 @@ fn visit(
 }
 
 // Ends are taken up, until a node is due or nothing waits. A trial whose arm is done is given up if a Text laid in it ended past width.
+// kept: no index is counted; how far it goes is what waits.
 fn take_up_ends(events: &mut [u32], work: &[u32], state: State) -> Result<Turn, Stopped>
     requires { Rises state events.old work.now }
     ensures { TakenUp state events.old work.now result events.new }
@@ -193,6 +194,7 @@ fn turn(
 }
 
 // The run over a valid table of so many nodes: the root at indentation 0, broken.
+// kept: no index is counted; what is due next comes out of the turn before.
 pub fn run(
     table: &[u32],
     text: &[u8],

@@ -160,6 +160,7 @@ fn step_down(
 }
 
 // Where the walk down a node leads, read flat or broken from a column: through it, to a column; or to a reason.
+// kept: no index is counted; the next node comes out of the step before.
 #[inline(never)]
 pub fn first_reason(
     table: &[u32],

@@ -6,6 +6,7 @@ ghost use Rattle.table.specs.Kinds.{kinds, kind_at, kind_number, Decodes};
 use crate::refusal::Refusal;
 
 // The kinds by number, for a match on a node's word.
+// kept: a reader of the lent words matches them as they are; by `Kind` it would have a second way to fail, which validation rules out.
 pub const NIL: u32 = 0;
 
 pub const APPEND: u32 = 1;

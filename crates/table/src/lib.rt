@@ -24,6 +24,7 @@ use text::Seen;
 pub use text::columns_right;
 
 // A node's four words, where they travel together.
+// kept: numbers, since they are words of the table that C lends, and document 01 names the lent slice read four words to a node.
 #[derive(Clone, Copy)]
 pub struct Words {
     pub kind: u32,
