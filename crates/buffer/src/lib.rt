@@ -41,7 +41,10 @@ pub fn copy<T: Copy>(src: &[T], from: usize, n: usize, dst: &mut [T], at: usize)
     requires { (from + n ≤ length src.now) × (at + n ≤ length dst.old) }
     ensures { dst.new ≡ put dst.old at (take n (drop from src.now)) }
 {
-    dst[at..at + n].copy_from_slice(&src[from..from + n]);
+    // kept: `copy_from_slice` calls memmove, and C is promised that the archive needs memcpy and memset alone
+    for i in 0..n {
+        dst[at + i] = src[from + i];
+    }
 }
 
 // A block of src from `from` on stands in dst from `at` on. It is read whole before it is written, so that it goes by few wide moves.
@@ -49,7 +52,7 @@ fn copy_block(src: &[u8], from: usize, dst: &mut [u8], at: usize)
     requires { (from + 32 ≤ length src.now) × (at + 32 ≤ length dst.old) }
     ensures { dst.new ≡ put dst.old at (take 32 (drop from src.now)) }
 {
-    // kept: straight to dst, copy_from_slice looks for an overlap first: 5.3 ns, 3.0 so
+    // kept: an array between: straight to dst it goes by a call of memcpy
     let mut block = [0u8; 32];
     copy(src, from, BYTES, &mut block, 0);
     copy(&block, 0, BYTES, dst, at);
