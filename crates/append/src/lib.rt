@@ -41,6 +41,8 @@ pub fn put_digits(out: &mut [u8], n: usize) -> usize
     0
 }
 
+// kept: digits by hand: `Adds` says that what has no room is left out whole, and `write!` leaves a part of it.
+
 // Writes a number.
 pub fn number(out: &mut [u8], at: usize, n: usize) -> usize
     ensures { Adds out.old at (decimal n) out.new result }

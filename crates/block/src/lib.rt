@@ -2,6 +2,8 @@
 // alternative and its Core, affixes.rt Head and Tail, lists.rt the affixes as they are handed on. `format` has no `requires`, and says
 // its whole outcome by one definition, so one outcome is possible.
 
+// kept: that counts lie in the table and nodes below them stands in each clause: it ties them to the table lent beside (document 01).
+
 #![tactic(auto)]
 
 ghost use Rattle.std.specs.Prelude.{◌≡◌, true, ◌+◌, ◌-◌, ◌<◌, ◌≤◌, length};

@@ -52,7 +52,7 @@ fn copy_block(src: &[u8], from: usize, dst: &mut [u8], at: usize)
     requires { (from + 32 ≤ length src.now) × (at + 32 ≤ length dst.old) }
     ensures { dst.new ≡ put dst.old at (take 32 (drop from src.now)) }
 {
-    // kept: an array between: straight to dst it goes by a call of memcpy
+    // kept: by way of an array, four wide moves; straight to dst it is a call of memcpy ("short texts as one block", docs/PERFORMANCE.md)
     let mut block = [0u8; 32];
     copy(src, from, BYTES, &mut block, 0);
     copy(&block, 0, BYTES, dst, at);

@@ -93,6 +93,8 @@ fn octet(o: Owing, b: u8) -> Option<Owing>
     Some(Owing::tails(o.count - 1))
 }
 
+// kept: by RFC 3629's own table, whose rows three edits hold.
+
 // Whether the bytes are well-formed UTF-8 by RFC 3629.
 pub fn well_formed(bytes: &[u8]) -> bool
     ensures { result ≡ well_formed bytes.now }

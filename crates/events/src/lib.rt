@@ -25,6 +25,7 @@ pub struct Event {
 }
 
 // The record of no event.
+// kept: public, with its definition `none`.
 pub fn none() -> Event
     ensures { result ≡ none }
 {

@@ -13,7 +13,7 @@ use Rattle.waiting.specs.Stack.{stack_of}
 use Rattle.fitting.specs.Fitting.{Fitting, Fitted, Known, Below}
 use Rattle.std.specs.Prelude.{Result}
 use Rattle.table.specs.declared.NodeNo.{NodeNo}
-use Rattle.fitting.specs.declared.Fit.{Fit}
+use Rattle.fitting.specs.declared.fit.Fit.{Fit}
 
 -- a Group is walked through
 fit-group : (T : List ℕ) (W left x a c : ℕ) (m : Mode) (is : List Item) → node_at T x ≡ group a → fit T W (suc left) (item x m ∷ is) c ≡ fit T W left (item a m ∷ is) c

@@ -20,7 +20,7 @@ use Rattle.waiting.proofs.Laws.{same_refl, same_trans, same_less, stack_same, le
 use Rattle.fitting.specs.Fitting.{Stepped, stepped, Fitting, Fitted, verdict_of}
 use Rattle.fitting.specs.declared.Step.{Step}
 use Rattle.fitting.specs.declared.Step.TheVariants.{Down, Done, Fits, Wide}
-use Rattle.fitting.specs.declared.Fit.{Fit}
+use Rattle.fitting.specs.declared.fit.Fit.{Fit}
 use Rattle.table.specs.declared.NodeNo.{NodeNo}
 use Rattle.table.specs.declared.Column.{Column}
 

@@ -10,7 +10,7 @@ use Rattle.table.specs.declared.NodeNo.{NodeNo}
 use Rattle.waiting.specs.Stack.{mode_of, stack_of, items_of, Same}
 use Rattle.fitting.specs.declared.Step.{Step}
 use Rattle.fitting.specs.declared.Step.TheVariants.{Down, Done, Fits, Wide}
-use Rattle.fitting.specs.declared.Fit.{Fit}
+use Rattle.fitting.specs.declared.fit.Fit.{Fit}
 
 -- Where a visit of the code leads: from column c with k nodes left to walk in mode m, over the work area w; `is` is what is to be walked
 -- after those, and `left` the steps left.

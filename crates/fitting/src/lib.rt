@@ -11,6 +11,9 @@ ghost use Rattle.table.specs.Node.{node_at};
 ghost use Rattle.table.specs.Sound.{Sound};
 ghost use Rattle.fitting.specs.Fitting.{Stepped, Fitting, Fitted, Known, Below, NextInRow};
 
+mod fit;
+
+pub use fit::Fit;
 use table::{Column, NodeNo};
 use waiting::{Mode, Tag};
 
@@ -21,13 +24,6 @@ pub enum Step {
     Done(Column),
     Fits,
     Wide,
-}
-
-// What the fit test says: the mode that the group's child is laid in, with the steps left.
-#[derive(Clone, Copy)]
-pub struct Fit {
-    pub mode: Mode,
-    pub left: u32,
 }
 
 // A visit. Append, Group, Nest, Align and Annotated are walked through; Union takes its second arm; FlatAlt goes by mode.
@@ -159,8 +155,18 @@ fn walked(
         node = waiting::node_at(work, at);
         mode = Mode(0);
     };
-    let mode = if fits { Mode(1) } else { Mode(0) };
-    Ok(Fit { mode, left: steps })
+    let left = steps;
+    if fits {
+        Ok(Fit {
+            mode: Mode(1),
+            left,
+        })
+    } else {
+        Ok(Fit {
+            mode: Mode(0),
+            left,
+        })
+    }
 }
 
 // Whether a group's child fits, read flat, with what waits after it: then it goes flat, else broken. Or the node that is due when no step is left.

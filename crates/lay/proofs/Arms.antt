@@ -25,7 +25,7 @@ use Rattle.waiting.specs.declared.Tag.TheVariants.{Trial}
 use Rattle.waiting.specs.declared.Saved.{Saved as SavedWords}
 use Rattle.waiting.proofs.Laws.{trial_up, from-give_up}
 use Rattle.fitting.specs.Fitting.{Fitted}
-use Rattle.fitting.specs.declared.Fit.{Fit}
+use Rattle.fitting.specs.declared.fit.Fit.{Fit}
 use Rattle.lay.specs.Turning.{Turning, Kept, Restoring, restored_of}
 use Rattle.lay.specs.declared.State.{State}
 use Rattle.lay.specs.declared.Turn.TheVariants.{Go}
@@ -59,12 +59,12 @@ module _ {T w w' : List ℕ} {W a : ℕ} (i : ℕ) {m : ℕ} (s : State) {v : Re
   leads p = grouped T W (mode_of m) a i p s.left (flag_of s.past) (stack_of s.depth w)
 
   -- by the mode that the fit test says
-  group-in : (mode : ℕ) (left : ℕ) → v ≡ Ok (record { mode = record { 0 = mode }; left = left }) → Kept s (Ok (Go (fewer s left) (due_of a i mode))) w' leads
-  group-in (suc m) left e = record { turning = λ out ev in-s. record { same = rw (broken-now, ← f.said, e, same-stack); within = in-s } }
-  group-in zero left e = record { turning = λ out ev in-s. record { same = rw (broken-now, ← f.said, e, same-stack); within = in-s } }
+  group-in : (mode : ℕ) (left : ℕ) (y : mode ≤ 1) → v ≡ Ok (record { mode = record { 0 = mode }; left = left; yes_or_no = y }) → Kept s (Ok (Go (fewer s left) (due_of a i mode))) w' leads
+  group-in (suc m) left y e = record { turning = λ out ev in-s. record { same = rw (broken-now, ← f.said, e, same-stack); within = in-s } }
+  group-in zero left y e = record { turning = λ out ev in-s. record { same = rw (broken-now, ← f.said, e, same-stack); within = in-s } }
 
   pub group-goes : (fit : Fit) → v ≡ Ok fit → Kept s (Ok (Go (fewer s fit.left) (due_of a i fit.mode.0))) w' leads
-  group-goes fit e = group-in fit.mode.0 fit.left e
+  group-goes fit e = group-in fit.mode.0 fit.left fit.yes_or_no e
 
 -- ---- a trial given up
 

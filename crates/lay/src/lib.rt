@@ -260,7 +260,7 @@ pub fn lay_annotated(
 }
 
 // An indentation by a Nest's amount and way.
-// kept: the way is the Nest's own word.
+// kept: the way is a word that C lends, the Nest's own.
 pub fn nest_by(indent: Indent, amount: u32, way: u32) -> Indent
     requires { indent.0 + amount ≤ 2000000 }
     ensures { result.0 ≡ nested (way_of way) amount indent.0 }

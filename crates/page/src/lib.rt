@@ -6,6 +6,8 @@
 // Contracts speak of the layout rules' pages alone, and nothing here knows what waits: any engine may use it.
 // Nothing here is an entry point of the library: each function says what it asks of its caller.
 
+// kept: the lengths of what is lent stand in each clause, since the buffers are lent apart (document 01).
+
 #![tactic(auto)]
 
 ghost use Rattle.std.specs.Prelude.{◌+◌, ◌*◌, ◌/◌, ◌≤◌, length, take, drop};
@@ -87,6 +89,7 @@ pub fn note_event(events: &mut [u32], page: Page, mark: u32, label: u32) -> Opti
 }
 
 // A trial is given up: the page is as it was saved before it. The trial's bytes and events stay behind what is used.
+// kept: its definition and three edits speak of both pages.
 pub fn put_back(page: Page, saved: Page) -> Page
     ensures { PutBack page saved result }
 {

@@ -11,6 +11,7 @@ use summary::Reason;
 use why::WhyRefused;
 
 // An answer in numbers: the answer; 0 flat or 1 broken; the reason; node and column. On a refusal all but the first are 0.
+// kept: numbers, since C is told these five words.
 #[derive(Clone, Copy)]
 pub struct Numbers {
     pub answer: u32,

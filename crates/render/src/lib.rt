@@ -3,6 +3,8 @@
 // The node due is visited, then what waits is taken up: ends of annotations and of trials, until a node is due again or nothing waits.
 // Not an entry point of the library: the crate layout tests sizes and the table before it comes here, and clears the buffers after it.
 
+// kept: table, text, out, events and work are lent apart, here and in layout and why, as document 01 has them; three are `&mut`.
+
 #![tactic(auto)]
 
 ghost use Rattle.render.specs.Visit.{Start, Ready, Visited, Held, Came};
@@ -120,7 +122,7 @@ fn visit(
 }
 
 // Ends are taken up, until a node is due or nothing waits. A trial whose arm is done is given up if a Text laid in it ended past width.
-// kept: no index is counted; how far it goes is what waits.
+// kept: the state's own depth counts down; a `for` would count it a second time.
 fn take_up_ends(events: &mut [u32], work: &[u32], state: State) -> Result<Turn, Stopped>
     requires { Rises state events.old work.now }
     ensures { TakenUp state events.old work.now result events.new }
@@ -158,6 +160,7 @@ fn take_up_ends(events: &mut [u32], work: &[u32], state: State) -> Result<Turn, 
 }
 
 // A node is done: a node on top is due at once, as mostly; else ends are taken up first.
+// kept: the first arm of `take_up_ends` again, for speed (docs/PERFORMANCE.md).
 fn take_up(events: &mut [u32], work: &[u32], state: State) -> Result<Turn, Stopped>
     requires { Rises state events.old work.now }
     ensures { TakenUp state events.old work.now result events.new }

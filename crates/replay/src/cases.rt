@@ -2,7 +2,8 @@
 //
 // A case is a line: answer and place, the table's words in decimal, the text bytes in hexadecimal, and a name, with `|` between. Written are
 // the answer and place that validation gives, the name and, where the line has others, what was wanted.
-use crate::lines::{Base, narrow, numbers, past};
+use crate::base::Base;
+use crate::lines::{narrow, numbers, past};
 use std::io;
 use std::io::Write;
 use table::Fault;
@@ -32,11 +33,11 @@ fn report<W: Write>(
 // Replays one case: whether answer and place were as wanted.
 pub fn replay<W: Write>(print: &mut W, line: &[u8]) -> io::Result<bool> {
     let mut wanted = [0u32; 2];
-    let head = numbers(line, 0, Base::Ten, &mut wanted);
+    let head = numbers(line, 0, Base { value: 10 }, &mut wanted);
     let mut words = [0u32; 4200];
-    let table = numbers(line, past(line, head.end), Base::Ten, &mut words);
+    let table = numbers(line, past(line, head.end), Base { value: 10 }, &mut words);
     let mut wide = [0u32; 65600];
-    let bytes = numbers(line, past(line, table.end), Base::Sixteen, &mut wide);
+    let bytes = numbers(line, past(line, table.end), Base { value: 16 }, &mut wide);
     let mut text = [0u8; 65600];
     let t = table.count;
     let n = bytes.count;

@@ -10,6 +10,7 @@ ghost use Rattle.replay.specs.Numbers.{further, value_of, digits, between, value
 ghost use Rattle.replay.specs.Bases.{base_of, digit_in};
 ghost use Rattle.replay.specs.Bytes.{bytes_of};
 
+use crate::base::Base;
 use buffer::parts::part_end;
 
 // A number of a list, how many times it stands there, and where it ends.
@@ -27,40 +28,24 @@ pub struct Stored {
     pub end: usize,
 }
 
-// The base that the numbers of a list are written in.
-#[derive(Clone, Copy)]
-pub enum Base {
-    Ten,
-    Sixteen,
-}
-
 impl Base {
-    // How many digits it has.
-    fn value(self) -> u32
-        ensures { result ≡ base_of self }
-    {
-        match self {
-            Base::Ten => 10,
-            Base::Sixteen => 16,
-        }
-    }
-
     // What a digit of this base is worth.
     fn digit(self, b: u8) -> Option<u32>
         ensures { result ≡ digit_in (base_of self) b }
     {
-        match (self, b) {
-            (_, b'0'..=b'9') => Some((b - b'0') as u32),
-            (Base::Sixteen, b'a'..=b'f') => Some((b - b'a') as u32 + 10),
-            _ => None,
-        }
+        let d = match b {
+            b'0'..=b'9' => (b - b'0') as u32,
+            b'a'..=b'f' => (b - b'a') as u32 + 10,
+            _ => return None,
+        };
+        if d < self.value { Some(d) } else { None }
     }
 
     // A number with one digit more, modulo 2^32.
     fn further(self, value: u32, d: u32) -> u32
         ensures { result ≡ further (base_of self) value d }
     {
-        value.wrapping_mul(self.value()).wrapping_add(d)
+        value.wrapping_mul(self.value).wrapping_add(d)
     }
 }
 
@@ -102,7 +87,7 @@ fn repeated(s: &[u8], from: usize, base: Base, first: u32) -> Item
     let end = one.end;
     if end < s.len() {
         if s[end] == b'*' {
-            let many = number(s, end + 1, Base::Ten, 0);
+            let many = number(s, end + 1, Base { value: 10 }, 0);
             return Item {
                 value: one.value,
                 times: many.value,

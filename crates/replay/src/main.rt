@@ -11,6 +11,7 @@ use buffer::parts::{behind, front, part_end};
 use std::io;
 use std::io::{Read, Write};
 
+mod base;
 mod cases;
 mod lines;
 mod runs;

@@ -3,7 +3,8 @@
 // A run is a line: the table's words in decimal, the text bytes in hexadecimal, width, limit, room and slots, and a name, with
 // `|` between. All buffers are soiled before the call. Written are answer, place and steps, the bytes used, the words of the
 // events used, how much of output, events and work is not zero and must be, and the name.
-use crate::lines::{Base, narrow, numbers, past};
+use crate::base::Base;
+use crate::lines::{narrow, numbers, past};
 use layout::Report;
 use rules::EVENT_WORDS;
 use std::io;
@@ -117,12 +118,12 @@ fn lay_out<W: Write>(
 // Replays one run.
 pub fn replay<W: Write>(print: &mut W, line: &[u8]) -> io::Result<()> {
     let mut words = [0u32; 4200];
-    let table = numbers(line, 0, Base::Ten, &mut words);
+    let table = numbers(line, 0, Base { value: 10 }, &mut words);
     let mut wide = [0u32; 65600];
-    let bytes = numbers(line, past(line, table.end), Base::Sixteen, &mut wide);
+    let bytes = numbers(line, past(line, table.end), Base { value: 16 }, &mut wide);
     let mut text = [0u8; 65600];
     let mut sizes = [0u32; 4];
-    let asked = numbers(line, past(line, bytes.end), Base::Ten, &mut sizes);
+    let asked = numbers(line, past(line, bytes.end), Base { value: 10 }, &mut sizes);
     let t = table.count;
     let n = bytes.count;
     narrow(&wide[..n], &mut text);

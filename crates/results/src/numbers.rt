@@ -3,6 +3,7 @@ ghost use Rattle.std.specs.Prelude.{◌≡◌, ◌||◌, eqb};
 ghost use Rattle.results.specs.Numbers.{number_of, tenths_of};
 
 // A whole number of one to four digits.
+// kept: digits by hand: `parse` takes a sign and any length, `number_of` one to four digits.
 pub fn number(s: &[u8]) -> Option<u32>
     ensures { result ≡ number_of s.now }
 {

@@ -2,6 +2,8 @@
 // that can't be laid out whole, and a write that fails is told.
 // In order: refusals and their messages; printing; the whole run. marks.rt: where a mark is open.
 
+// kept: arrays of a fixed length, here and in every program: the project has no heap.
+
 #![tactic(auto)]
 
 use buffer::lines::Lines;

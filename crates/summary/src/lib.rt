@@ -3,7 +3,7 @@
 // nodes of the table: a node that is shared is never read twice on the way.
 //
 // A summary is one word: 0 where no Text is passed; one more than the columns of the Texts passed; NEVER where the walk doesn't come through.
-// kept: a word, for speed: why for a Group over 1,000 joins takes 74,000 instructions a call, with an enum 133,000 (callgrind).
+// kept: a word, for speed: why for a Group over 1,000 joins takes 70,000 instructions a call, with an enum 133,000 (callgrind).
 // Nothing here is an entry point of the library: each function says what it asks of its caller.
 
 #![tactic(auto)]

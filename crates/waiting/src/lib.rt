@@ -8,6 +8,8 @@
 // First the pushes, then what is read of an entry, then the searches.
 // Nothing here is an entry point of the library: each function says what it asks of its caller.
 
+// kept: the area's length and a height's bound stand in each clause: the area is lent (document 01), so no type holds them.
+
 #![tactic(auto)]
 
 ghost use Rattle.std.specs.Prelude.{◌≡◌, [], ◌∷◌, ◌+◌, ◌*◌, ◌≤◌, ◌<◌, length, get_or};

@@ -1,6 +1,8 @@
 // Texts and words as nodes, for rows, headings and the footer of a sheet: a Text of bytes, and a text cut at its blanks and filled by softlines.
 // start.rt: the nodes that all share. Only `together` has a `requires`.
 
+// kept: counts, table and text are lent apart here and in row, footer and chest; the reason stands at build's Counts.
+
 #![tactic(auto)]
 
 ghost use Rattle.std.specs.Prelude.{◌≡◌, ◌<◌, ◌≤◌, length};
