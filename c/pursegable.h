@@ -123,7 +123,7 @@ static inline const char *pursegable_answer_text(uint32_t answer)
 #define PURSEGABLE_DEFAULT_STEPS 1000000 /* step limit of both */
 
 /* Bytes of stack that no call reaches: of layout, sheet and label, which keep the events' words there; of block; of every other
- * function, layout_words too. They took 49,873 bytes, 17,053 and 1,393 (layout_words 689), by tests/stack.c, which runs each call on a
+ * function, layout_words too. They took 49,953 bytes, 17,129 and 1,305 (layout_words 673), by tests/stack.c, which runs each call on a
  * stack that was painted before. */
 #define PURSEGABLE_STACK_LAYOUT 51200
 #define PURSEGABLE_STACK_BLOCK 20480
