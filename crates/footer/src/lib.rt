@@ -30,6 +30,7 @@ fn all_within(c: Counts, table: &mut [u32], text: &mut [u8], rows: usize) -> Mad
     if rows == 1 {
         return leaf(c, table, text, b"The pallet is within tolerance");
     }
+    // kept: arrays and how much of them is written: the project has no heap
     let mut digits = [0u8; 20];
     let first = put_digits(&mut digits, rows);
     let mut space = [32u8; 64];

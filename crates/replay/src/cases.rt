@@ -9,6 +9,7 @@ use std::io::Write;
 use table::Fault;
 
 // Writes what was found and the case's name, and what was wanted where it is something else.
+// kept: answer and place are numbers, as the list writes them.
 fn report<W: Write>(
     print: &mut W,
     found: Result<(), Fault>,

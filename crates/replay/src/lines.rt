@@ -22,6 +22,7 @@ struct Item {
 }
 
 // How many numbers were stored, and where their list ends.
+// kept: a count beside the words that the caller lends: the project has no heap.
 #[derive(Clone, Copy)]
 pub struct Stored {
     pub count: usize,

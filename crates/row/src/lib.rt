@@ -67,6 +67,7 @@ pub fn row(
         result table.new text.new
         (row_doc line.now p) }
 {
+    // kept: an array and how much of it is written, here and in remark.rt: the project has no heap
     let mut space = [32u8; 64];
     let n = put_row(&mut space, line, p);
     let (c, fixed) = leaf(c, table, text, front(&space, n))?;
