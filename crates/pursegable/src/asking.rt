@@ -68,8 +68,7 @@ fn five_why(w: Numbers) -> [u32; REPORT_WORDS]
 }
 
 // Why the Group that is visited at this step goes flat or broken. The answer is returned, and is the report's first word.
-#[unsafe(no_mangle)]
-pub extern "C" fn pursegable_why(
+pub fn pursegable_why(
     table: &[u32],
     text: &[u8],
     width: u32,

@@ -15,8 +15,7 @@ use table::{Column, Indent, NodeNo};
 const AFFIXES: usize = 8;
 
 // Any constructor but text, concat and intersperse. Its operands are a node's words as the table has them.
-#[unsafe(no_mangle)]
-pub extern "C" fn pursegable_make(
+pub fn pursegable_make(
     what: u32,
     a: u32,
     b: u32,
@@ -40,8 +39,7 @@ pub extern "C" fn pursegable_make(
 }
 
 // A Text of these bytes, so many columns wide.
-#[unsafe(no_mangle)]
-pub extern "C" fn pursegable_text(
+pub fn pursegable_text(
     bytes: &[u8],
     columns: u32,
     table: &mut [u32],
@@ -60,13 +58,7 @@ pub extern "C" fn pursegable_text(
 }
 
 // The nodes joined.
-#[unsafe(no_mangle)]
-pub extern "C" fn pursegable_concat(
-    nodes: &[u32],
-    table: &mut [u32],
-    text: &[u8],
-    counts: &mut [u32],
-) -> u32
+pub fn pursegable_concat(nodes: &[u32], table: &mut [u32], text: &[u8], counts: &mut [u32]) -> u32
     ensures { left result table.new text.now counts.new ≡
         built (λ c t x. concat_made c t x nodes.now)
         table.old text.now counts.old }
@@ -79,8 +71,7 @@ pub extern "C" fn pursegable_concat(
 }
 
 // The nodes joined, with the separator between each two.
-#[unsafe(no_mangle)]
-pub extern "C" fn pursegable_intersperse(
+pub fn pursegable_intersperse(
     nodes: &[u32],
     separator: u32,
     table: &mut [u32],
@@ -110,8 +101,7 @@ fn set_flags(bytes: &[u8], flags: &mut [bool])
 
 // The layouts of a body between affixes: their prefixes, their suffixes, and for each whether it is nested. Way 0 adds, 1 subtracts.
 // The affixes come as three lists; a flag is a byte, for want of a bool that C and Rust agree on.
-#[unsafe(no_mangle)]
-pub extern "C" fn pursegable_block(
+pub fn pursegable_block(
     body: u32,
     amount: u32,
     way: u32,

@@ -1,6 +1,7 @@
-// The static library: what C and Rust programs link. c/pursegable.h says the same in C.
+// The library. pursegable_c exports each public function under its name here, with the same clauses, and is what C and Rust programs link;
+// c/pursegable.h says the same in C.
 //
-// No export has a `requires`. A slice is a pointer and a length in elements; null or overlapping buffers are the caller's business.
+// No public function has a `requires`. At an export a slice is a pointer and a length in elements; null or overlapping buffers are the caller's business.
 // Here, in order: the report; layout, sheet and label over event records; the layout over the events' words.
 // asking.rt: why a group broke. building.rt: the constructors and the block layouts; constructors.rt: which constructor a number makes; counts.rt: the lent counts.
 
@@ -57,8 +58,7 @@ fn five_of(r: Report) -> [u32; REPORT_WORDS]
 }
 
 // Lays a table out at a width, with a step limit. The answer is returned, and is the report's first word.
-#[unsafe(no_mangle)]
-pub extern "C" fn pursegable_layout(
+pub fn pursegable_layout(
     table: &[u32],
     text: &[u8],
     width: u32,
@@ -82,8 +82,7 @@ pub extern "C" fn pursegable_layout(
 }
 
 // The whole sheet, at the default width and step limit.
-#[unsafe(no_mangle)]
-pub extern "C" fn pursegable_sheet(
+pub fn pursegable_sheet(
     table: &[u32],
     text: &[u8],
     out: &mut [u8],
@@ -109,8 +108,7 @@ pub extern "C" fn pursegable_sheet(
 }
 
 // The row label, at its own width and the default step limit.
-#[unsafe(no_mangle)]
-pub extern "C" fn pursegable_label(
+pub fn pursegable_label(
     table: &[u32],
     text: &[u8],
     out: &mut [u8],
@@ -136,8 +134,7 @@ pub extern "C" fn pursegable_label(
 }
 
 // As pursegable_layout, with the events as words, `rules::EVENT_WORDS` to a record: nothing is copied.
-#[unsafe(no_mangle)]
-pub extern "C" fn pursegable_layout_words(
+pub fn pursegable_layout_words(
     table: &[u32],
     text: &[u8],
     width: u32,
