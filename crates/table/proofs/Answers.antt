@@ -1,4 +1,4 @@
--- The answer at each way out of the code: what the tests on the way say of `columns_right`, `text_fault`, `fault_of` and `fault_at`.
+-- The answer at each way out of the code: what the tests on the way say of `fault_of` and `fault_at`, and of a Text's columns.
 -- Assumes nothing.
 use Prim.Native.Nat.{ℕ, zero, suc, ◌+◌, ◌*◌, ◌/◌, ◌≤◌, ◌<◌}
 use native.Mathlib.Nat.{not-suc-le-zero}

@@ -14,8 +14,8 @@ use Rattle.table.specs.Kinds.{kind, kinds, kind_at}
 use Rattle.table.specs.Node.{Node, nil, append, group, flat_alt, nest, hardline, text, annotated, union, align, fail, node_of}
 use Rattle.choice.proofs.Tests.{and-true, all_at}
 
--- An Append has two children and uses two words, a Group one and one, a Text no child and all three words. `plainly_right` and `node_fault` in
--- src/lib.rt test these kinds without reading the table; their proofs cite these lines.
+-- An Append has two children and uses two words, a Group one and one, a Text no child and all three words. `plainly_right` and `fault` of `Words`,
+-- in src/lib.rt, test these kinds without reading the table; their proofs cite these lines.
 pub append-entry : kind_at 1 ≡ kind 2 2
 unfolding kinds kind_at
 append-entry = refl

@@ -1,4 +1,4 @@
--- The numbers of refusals: each is from 1 to 9, and no two are the same.
+-- The numbers of refusals: each is from 1 to 9, and no two are the same; so what validation tells is told by one answer only.
 -- Assumes nothing.
 use Prim.Native.Nat.{ℕ, ◌-◌, ◌≤◌, ◌<◌}
 use native.Mathlib.Omega.{arith}
@@ -7,7 +7,11 @@ use mathlib.Core.List.{List, [], ◌∷◌}
 use lib.ListN.{get_or}
 use Rattle.table.specs.declared.refusal.Refusal.{Refusal}
 use Rattle.table.specs.declared.refusal.Refusal.TheVariants.{BadSize, BadKind, BadChild, BadRange, BadText, FailMet, NoSteps, NoOutput, NoEvents}
+use Rattle.std.specs.Prelude.{Result, Ok, Err, ⊤}
+use Rattle.table.specs.Fault.{Fault}
+use Rattle.table.specs.Parts.{told}
 use Rattle.table.specs.Refusal.{number}
+use Rattle.table.specs.declared.Fault.{Fault as Told}
 
 pub number-positive : (why : Refusal) → 0 < number why
 number-positive BadSize = omega arith
@@ -54,3 +58,13 @@ number_back NoEvents = refl
 
 pub number-injective : (why other : Refusal) → number why ≡ number other → why ≡ other
 number-injective why other e = sym (number_back why) ∙ ap with_number e ∙ number_back other
+
+-- two answers of validation that tell the same fault are equal
+pub told-injective : (r r' : Result ⊤ Told) → told r ≡ told r' → r ≡ r'
+told-injective (Ok valid) (Ok valid') e = refl
+told-injective (Ok valid) (Err f) e = absurd (number_not-zero f.why (sym (ap (λ (g : Fault). g.answer) e)))
+told-injective (Err f) (Ok valid) e = absurd (number_not-zero f.why (ap (λ (g : Fault). g.answer) e))
+told-injective (Err f) (Err f') e =
+    let why : f.why ≡ f'.why = number-injective f.why f'.why (ap (λ (g : Fault). g.answer) e) in
+    let place : f.place.0 ≡ f'.place.0 = ap (λ (g : Fault). g.place) e in
+    λ i. Err (record { why = why i; place = record { 0 = place i } })

@@ -64,6 +64,9 @@ impl TryFrom<u32> for Kind {
     ghost try_from_gives = { Decodes };
 
     fn try_from(word: u32) -> Result<Kind, Refusal> {
+        if KIND_COUNT <= word {
+            return Err(Refusal::BadKind);
+        }
         match word {
             NIL => Ok(Kind::Nil),
             APPEND => Ok(Kind::Append),
@@ -76,7 +79,7 @@ impl TryFrom<u32> for Kind {
             UNION => Ok(Kind::Union),
             ALIGN => Ok(Kind::Align),
             FAIL => Ok(Kind::Fail),
-            _ => Err(Refusal::BadKind),
+            _ => unreachable!(),
         }
     }
 }
