@@ -2,3 +2,4 @@
 pub mod Digits
 pub mod Saying
 pub mod Walking
+pub mod Marks

@@ -3,24 +3,26 @@
 --     no-force, no-pluck, no-remark, fields_are   where the separators stand
 --     no_note, long-note            the note
 --     ..-fault, row-is              force and pluck point behind a note
+--     no_line                       an empty line
 -- Assumes nothing.
 use Prim.Native.Nat.{ℕ, ◌+◌, ◌-◌, ◌*◌, ◌≤◌, ◌<◌}
 use native.Mathlib.Omega.{arith}
 use mathlib.Core.Path.{◌≡◌, refl, sym, ap, ◌∙◌, subst}
 use mathlib.Core.Bool.{true, false, ◌||◌}
-use mathlib.Core.List.{List}
+use mathlib.Core.List.{List, [], ◌∷◌}
 use lib.ListN.{length, get_or, take, drop, length-drop}
 use lib.Seq.{take_all}
 use lib.Dec.{eqb}
 use borrow.Author.Tests.{le-leb, lt-leb}
-use Rattle.buffer.specs.Parts.{between, characters, blank}
+use Rattle.buffer.specs.Parts.{between, characters, blank, controls}
+use Rattle.buffer.specs.Utf8.{owed, well_formed}
 use Rattle.results.proofs.Digits.{number_small}
 use Rattle.results.specs.Numbers.{number_of, tenths_add, tenths_of, Small}
-use Rattle.results.specs.Pallets.{Ordered, separator, cuts_at, fields_of, measured, pallet_of}
+use Rattle.results.specs.Pallets.{Ordered, separator, cuts_at, fields_of, measured, pallet_of, said, parsed}
 use Rattle.results.specs.declared.Fault.TheVariants.{NoForce, NoPluck, NoRemark, Note, Force, Pluck}
 use Rattle.results.specs.declared.Fault.{Fault}
 use Rattle.results.specs.declared.Cuts.{Cuts}
-use Rattle.results.specs.declared.Line.TheVariants.{Row}
+use Rattle.results.specs.declared.Line.TheVariants.{Empty, Row}
 use Rattle.std.specs.Prelude.{Option, Some, None, Result, Ok, Err}
 
 -- ---- tenths
@@ -127,3 +129,10 @@ module _ (s : List ℕ) (first second third : ℕ) where
         pub row-is : (tenths : ℕ) → pluck ≡ Some tenths → Ok (Row (record { force = first + 1; pluck = second + 1; remark = third + 1; grams = grams; tenths = tenths })) ≡ pallet_of s first second third
         unfolding measured
         row-is tenths i = rw (← pallet-is, g, ← k, i)
+
+-- ---- an empty line
+
+pub no_line : (s : List ℕ) → length s ≡ 0 → Ok Empty ≡ parsed s
+unfolding parsed said well_formed owed controls
+no_line [] h = refl
+no_line (b ∷ s) h = absurd (omega arith)

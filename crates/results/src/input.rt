@@ -18,7 +18,9 @@ impl fmt::Display for FaultAt {
     fn fmt<W: fmt::Write>(&self, f: &mut fmt::Formatter<W>) -> fmt::Result {
         let line = self.line;
         let fault = self.fault;
-        write!(f, "line {line}: {fault}")
+        // Where the line can't be told, what is wrong with it is tried all the same.
+        let _ = write!(f, "line {line}: ");
+        write!(f, "{fault}")
     }
 }
 

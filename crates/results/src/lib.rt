@@ -46,30 +46,31 @@ pub enum Fault {
     Pluck,
 }
 
+// A line of a message, with its line feed: what is told goes out in one write.
 impl fmt::Display for Fault {
     fn fmt<W: fmt::Write>(&self, f: &mut fmt::Formatter<W>) -> fmt::Result {
         f.write_str(match self {
-            Fault::TooLong => "it is longer than 200 bytes",
-            Fault::NotUtf8 => "it is not UTF-8",
-            Fault::Control => "it has a control character",
-            Fault::NoForce => "the force is missing (note;force;pluck point;remark)",
-            Fault::NoPluck => "the pluck point is missing (note;force;pluck point;remark)",
+            Fault::TooLong => "it is longer than 200 bytes\n",
+            Fault::NotUtf8 => "it is not UTF-8\n",
+            Fault::Control => "it has a control character\n",
+            Fault::NoForce => "the force is missing (note;force;pluck point;remark)\n",
+            Fault::NoPluck => "the pluck point is missing (note;force;pluck point;remark)\n",
             Fault::NoRemark => {
-                "the ; before the remark is missing (note;force;pluck point;remark)"
+                "the ; before the remark is missing (note;force;pluck point;remark)\n"
             }
-            Fault::Note => "the note must have 1 to 5 characters, not all of them blanks",
-            Fault::Force => "the force is not a whole number of grams, 0 to 9999",
-            Fault::Pluck => "the pluck point is not a number of millimetres like 1.2",
+            Fault::Note => "the note must have 1 to 5 characters, not all of them blanks\n",
+            Fault::Force => "the force is not a whole number of grams, 0 to 9999\n",
+            Fault::Pluck => "the pluck point is not a number of millimetres like 1.2\n",
         })
     }
 }
 
 // Where the three separators stand.
 #[derive(Clone, Copy)]
-struct Cuts {
-    first: usize,
-    second: usize,
-    third: usize,
+pub struct Cuts {
+    pub first: usize,
+    pub second: usize,
+    pub third: usize,
 }
 
 // What a line says that is not at fault: nothing, a heading or a pallet.
@@ -146,6 +147,10 @@ fn said(s: &[u8]) -> Result<Line, Fault>
 pub fn parse(s: &[u8]) -> Result<Line, Fault>
     ensures { result ≡ parsed s.now }
 {
+    // At once: an empty line costs a walk over the lines as much as all that follows.
+    if s.is_empty() {
+        return Ok(Line::Empty);
+    }
     if LONGEST_LINE < s.len() {
         return Err(Fault::TooLong);
     }

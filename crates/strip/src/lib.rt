@@ -37,35 +37,45 @@ pub enum Refusal {
 // Why something doesn't fit, behind what it is.
 fn lacks(why: Why) -> &'static str {
     match why {
-        Why::Nodes => "does not fit in the table's 1,024 nodes",
-        Why::Bytes => "does not fit in the 65,536 bytes of text",
-        Why::Sizes => "does not fit: the constructors answer 1",
-        Why::Operand => "does not fit: the constructors answer 11",
-        Why::Amount => "does not fit: the constructors answer 3",
-        Why::Text => "does not fit: the constructors answer 5",
+        Why::Nodes => " does not fit in the table's 1,024 nodes\n",
+        Why::Bytes => " does not fit in the 65,536 bytes of text\n",
+        Why::Sizes => " does not fit: the constructors answer 1\n",
+        Why::Operand => " does not fit: the constructors answer 11\n",
+        Why::Amount => " does not fit: the constructors answer 3\n",
+        Why::Text => " does not fit: the constructors answer 5\n",
     }
 }
 
-// What is told of it.
+// Tells what has no room: each part is tried, whatever became of the one before it.
+fn tell_full<W: fmt::Write>(
+    f: &mut fmt::Formatter<W>,
+    line: usize,
+    what: &str,
+    why: Why,
+) -> fmt::Result {
+    let _ = write!(f, "line {line}: ");
+    let _ = f.write_str(what);
+    f.write_str(lacks(why))
+}
+
+// What is told of it: a line, whose last part has its line feed, so that the two go out in one write.
 impl fmt::Display for Refusal {
     fn fmt<W: fmt::Write>(&self, f: &mut fmt::Formatter<W>) -> fmt::Result {
         match *self {
-            Refusal::NoInput => f.write_str("there is no input"),
+            Refusal::NoInput => f.write_str("there is no input\n"),
             Refusal::Fault(fault) => write!(f, "{fault}"),
             Refusal::NoRoom(NoRoom::Line(line, why)) => {
-                let lacks = lacks(why);
-                write!(f, "line {line}: this is the first line that {lacks}")
+                tell_full(f, line, "this is the first line that", why)
             }
             Refusal::NoRoom(NoRoom::Footer(line, why)) => {
-                let lacks = lacks(why);
-                write!(f, "line {line}: the footer after this last line {lacks}")
+                tell_full(f, line, "the footer after this last line", why)
             }
             Refusal::Layout(refused) => {
                 let answer = u32::from(refused.why);
-                write!(f, "the layout answers {answer}")
+                writeln!(f, "the layout answers {answer}")
             }
             Refusal::Unwritten => f.write_str(
-                "the sheet could not be written whole: do not use what was printed",
+                "the sheet could not be written whole: do not use what was printed\n",
             ),
         }
     }
@@ -129,7 +139,7 @@ fn printed<W: Write>(input: &[u8], print: &mut W) -> Result<(), Refusal> {
 pub fn run<P: Write, T: Write>(input: &[u8], print: &mut P, tell: &mut T) -> Result<(), Refusal> {
     let ended = printed(input, print);
     if let Err(refusal) = ended {
-        let _ = writeln!(tell, "{refusal}");
+        let _ = write!(tell, "{refusal}");
     }
     ended
 }
