@@ -31,7 +31,7 @@ fn write_words<W: Write>(print: &mut W, words: &[u32]) -> io::Result<()> {
 }
 
 // How many words are not zero.
-// kept: by a fold over u32: `filter` and `count` take several times as long over some 94,000 words a run.
+// kept: by a fold over u32: `filter` and `count` take several times as long, over up to 94,000 words a run.
 fn soiled(words: &[u32]) -> u32 {
     words.iter().fold(
         0,

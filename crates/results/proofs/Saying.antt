@@ -3,7 +3,7 @@
 --     no-force, no-pluck, no-remark, fields_are   where the separators stand
 --     no_note, long-note            the note
 --     ..-fault, row-is              force and pluck point behind a note
---     no_line                       an empty line
+--     no_line, verdict_of_lem       an empty line; one line of an input
 -- Assumes nothing.
 use Prim.Native.Nat.{ℕ, ◌+◌, ◌-◌, ◌*◌, ◌≤◌, ◌<◌}
 use native.Mathlib.Omega.{arith}
@@ -14,15 +14,16 @@ use lib.ListN.{length, get_or, take, drop, length-drop}
 use lib.Seq.{take_all}
 use lib.Dec.{eqb}
 use borrow.Author.Tests.{le-leb, lt-leb}
-use Rattle.buffer.specs.Parts.{between, characters, blank, controls}
+use Rattle.buffer.specs.Parts.{between, characters, blank, controls, body_end}
 use Rattle.buffer.specs.Utf8.{owed, well_formed}
 use Rattle.results.proofs.Digits.{number_small}
 use Rattle.results.specs.Numbers.{number_of, tenths_add, tenths_of, Small}
-use Rattle.results.specs.Pallets.{Ordered, separator, cuts_at, fields_of, measured, pallet_of, said, parsed}
+use Rattle.results.specs.Pallets.{Ordered, separator, cuts_at, fields_of, measured, pallet_of, said, parsed, verdict_of, verdict_at}
 use Rattle.results.specs.declared.Fault.TheVariants.{NoForce, NoPluck, NoRemark, Note, Force, Pluck}
 use Rattle.results.specs.declared.Fault.{Fault}
 use Rattle.results.specs.declared.Cuts.{Cuts}
 use Rattle.results.specs.declared.Line.TheVariants.{Empty, Row}
+use Rattle.results.specs.declared.Line.{Line}
 use Rattle.std.specs.Prelude.{Option, Some, None, Result, Ok, Err}
 
 -- ---- tenths
@@ -130,9 +131,13 @@ module _ (s : List ℕ) (first second third : ℕ) where
         unfolding measured
         row-is tenths i = rw (← pallet-is, g, ← k, i)
 
--- ---- an empty line
+-- ---- a line of an input
 
 pub no_line : (s : List ℕ) → length s ≡ 0 → Ok Empty ≡ parsed s
 unfolding parsed said well_formed owed controls
 no_line [] h = refl
 no_line (b ∷ s) h = absurd (omega arith)
+
+-- what a line says up to its end gives its verdict
+pub verdict_of_lem : (s : List ℕ) (n : ℕ) → n ≡ body_end s → {l l' : Result Line Fault} → l ≡ l' → l ≡ parsed (take n s) → verdict_of l' ≡ verdict_at s
+verdict_of_lem s n e is says = rw (← is, says, e)

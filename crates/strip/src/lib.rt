@@ -58,7 +58,7 @@ fn tell_full<W: fmt::Write>(
     f.write_str(lacks(why))
 }
 
-// What is told of it: a line, whose last part has its line feed, so that the two go out in one write.
+// What is told of it: a line. Its last part has the line feed, so that the two go out in one write, but for the layout's number.
 impl fmt::Display for Refusal {
     fn fmt<W: fmt::Write>(&self, f: &mut fmt::Formatter<W>) -> fmt::Result {
         match *self {
