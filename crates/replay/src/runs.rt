@@ -78,7 +78,7 @@ fn run<W: Write>(
     work: &mut [u32],
     name: &[u8],
 ) -> io::Result<()> {
-    // Before the call: behind it, the words are cleared twice.
+    // Made before the call: made after it, the words are cleared twice.
     let mut wide = [0u32; 65600];
     let r = Report::from(layout::layout(table, text, width, limit, out, events, work));
     widen(out, &mut wide);

@@ -1,4 +1,4 @@
--- The numbers of labels: no two labels of a row have the same, so a label that is known by its number is known.
+-- The numbers of labels: no two labels of a row have the same, so the number tells the label.
 -- Assumes nothing.
 use Prim.Native.Nat.{ℕ}
 use mathlib.Core.Path.{◌≡◌, refl, sym, ap, ◌∙◌}

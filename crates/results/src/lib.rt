@@ -46,7 +46,7 @@ pub enum Fault {
     Pluck,
 }
 
-// A line of a message, with its line feed: what is told goes out in one write.
+// The end of a message, with its line feed, so that both go out in one write.
 impl fmt::Display for Fault {
     fn fmt<W: fmt::Write>(&self, f: &mut fmt::Formatter<W>) -> fmt::Result {
         f.write_str(match self {
@@ -147,7 +147,7 @@ fn said(s: &[u8]) -> Result<Line, Fault>
 pub fn parse(s: &[u8]) -> Result<Line, Fault>
     ensures { result ≡ parsed s.now }
 {
-    // At once: an empty line costs a walk over the lines as much as all that follows.
+    // First, for speed: of an empty line the tests below take most of the time.
     if s.is_empty() {
         return Ok(Line::Empty);
     }
